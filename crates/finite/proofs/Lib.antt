@@ -1,0 +1,8 @@
+-- Mathematics that several crates use: tests, sums, members of lists, the pigeonhole, orbits, tables.
+pub mod Tests
+pub mod Order
+pub mod Sums
+pub mod Members
+pub mod Pigeonhole
+pub mod Orbit
+pub mod Tables
