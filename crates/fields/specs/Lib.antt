@@ -1,0 +1,5 @@
+-- What the contracts of `fields` cite.
+pub mod Files
+pub mod Rules
+pub mod Says
+pub mod Writing

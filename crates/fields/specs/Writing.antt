@@ -1,0 +1,14 @@
+-- Bytes written into lent memory.
+use mathlib.Core.Path.{_≡_}
+use mathlib.Core.List.{List, _++_}
+use Prim.Native.Nat.{ℕ, _+_}
+use lib.ListN.{length, take, drop}
+
+-- out with the bytes from `at` on replaced by xs; those before and behind are untouched
+abbrev pub putAt : ℕ → List ℕ → List ℕ → List ℕ
+putAt at xs out = take at out ++ (xs ++ drop (at + length xs) out)
+
+-- xs was put at `at`, which made out′ of out, and next is the place behind it
+pub record Written (at : ℕ) (xs out out′ : List ℕ) (next : ℕ) : Type 0 where
+  pub bytes : out′ ≡ putAt at xs out
+  pub behind : next ≡ at + length xs
