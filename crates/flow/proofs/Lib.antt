@@ -1,0 +1,27 @@
+-- The mathematics of minimum-cost flow, on lists; then the laws that the proofs of the functions cite.
+pub mod Units
+pub mod Names
+pub mod Sets
+pub mod Balance
+pub mod Duality
+pub mod Crossing
+pub mod Cuts
+pub mod Stage
+pub mod Stuck
+pub mod Lexicographic
+pub mod Starts
+pub mod Passes
+pub mod Steps
+pub mod Gaps
+pub mod Walks
+pub mod Duals
+pub mod Fills
+pub mod Sources
+pub mod Phases
+pub mod Cycles
+pub mod Members
+pub mod Settles
+pub mod Trims
+pub mod Uniques
+pub mod Capping
+pub mod Checks

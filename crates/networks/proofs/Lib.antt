@@ -1,0 +1,2 @@
+-- The networks of the tables are sound.
+pub mod Rows
