@@ -1,0 +1,4 @@
+-- Plane plates: the definitions that the contracts cite.
+pub mod Plates
+pub mod Steps
+pub mod Read

@@ -1,0 +1,180 @@
+//! Plates read: the refusal's number, or 0 with the number of faces and their degrees, by lowest dart. The expected faces were walked by hand.
+ghost use Prim.Native.Nat.{_%_, _≤_};
+ghost use mathlib.Core.Path.{_≡_};
+ghost use lib.ListN.{length};
+use embedding::read_plate;
+use libc::STDOUT_FILENO;
+
+// Writes the degrees of the faces and ends the line.
+fn show_faces(faces: usize, sizes: [u16; 66])
+    requires { ⌜ faces ≤ 66 ⌝ }
+{
+    let mut k = 0;
+    while k < faces {
+        io::write_all(STDOUT_FILENO, b" ");
+        io::print_decimal(STDOUT_FILENO, sizes[k] as u64);
+        k += 1;
+    }
+    io::write_all(STDOUT_FILENO, b"\n");
+}
+
+// Reads a plate and writes a line: its label, the number, the faces.
+fn show(label: &[u8], posts: u8, ends: &[u8], order: &[u8], outer: u8)
+    requires { ⌜ (length (now ends) ≤ 256) × (length (now ends) % 2 ≡ 0) × (length (now order) ≤ 256) ⌝ }
+{
+    let r = read_plate(posts, ends, order, outer);
+    io::write_all(STDOUT_FILENO, label);
+    io::write_all(STDOUT_FILENO, b" ");
+    io::print_decimal(STDOUT_FILENO, r.number as u64);
+    let faces = r.plate.faces;
+    let sizes = r.plate.sizes;
+    if faces <= 66 {
+        show_faces(faces, sizes);
+    }
+}
+
+// Document 01's P1 to P8.
+fn plates_to_try() {
+    show(b"P1", 2, b"\x00\x01\x00\x01", b"\x00\x02\x01\x03", 1);
+    show(
+        b"P2",
+        3,
+        b"\x00\x01\x01\x02\x02\x00",
+        b"\x00\x05\x01\x02\x03\x04",
+        1,
+    );
+    show(
+        b"P3",
+        4,
+        b"\x00\x01\x01\x02\x02\x03\x03\x00",
+        b"\x00\x07\x01\x02\x03\x04\x05\x06",
+        1,
+    );
+    show(b"P4", 2, b"\x00\x01", b"\x00\x01", 0);
+    show(
+        b"P5",
+        5,
+        b"\x00\x01\x00\x02\x00\x03\x00\x04",
+        b"\x00\x02\x04\x06\x01\x03\x05\x07",
+        1,
+    );
+    show(b"P6", 3, b"\x00\x01\x01\x02", b"\x00\x01\x02\x03", 1);
+    show(
+        b"P7",
+        2,
+        b"\x00\x01\x00\x01\x00\x01",
+        b"\x00\x02\x04\x05\x03\x01",
+        1,
+    );
+    show(
+        b"P8",
+        2,
+        b"\x00\x01\x00\x01\x00\x01",
+        b"\x00\x02\x04\x01\x03\x05",
+        1,
+    );
+}
+
+// Refusals 7 to 11: P10's cases, and each against the next.
+fn posts_and_strips() {
+    show(b"no post", 0, b"\x00\x01", b"\x00\x01", 0);
+    show(b"65 posts", 65, b"\x00\x01", b"\x00\x01", 0);
+    show(b"64 posts, no strip", 64, b"", b"", 0);
+    show(b"64 posts, one strip", 64, b"\x3e\x3f", b"\x00\x01", 0);
+    show(b"an end that is no post", 2, b"\x00\x02", b"\x00\x01", 0);
+    show(
+        b"a strip to itself, then no post",
+        2,
+        b"\x01\x01\x00\x02",
+        b"\x00\x01\x02\x03",
+        0,
+    );
+    show(
+        b"a strip to itself",
+        2,
+        b"\x00\x01\x01\x01",
+        b"\x00\x01\x02\x03",
+        0,
+    );
+    show(
+        b"five strips, then one to itself",
+        2,
+        b"\x00\x01\x00\x01\x00\x01\x00\x01\x00\x01\x01\x01",
+        b"",
+        0,
+    );
+    show(
+        b"five strips",
+        2,
+        b"\x00\x01\x00\x01\x00\x01\x00\x01\x00\x01",
+        b"\x00\x02\x04\x06\x08\x09\x07\x05\x03\x01",
+        1,
+    );
+    show(
+        b"four strips",
+        2,
+        b"\x00\x01\x00\x01\x00\x01\x00\x01",
+        b"\x00\x02\x04\x06\x07\x05\x03\x01",
+        1,
+    );
+}
+
+// Refusals 12 to 15, each against the next.
+fn order_and_whole() {
+    show(
+        b"order too short",
+        2,
+        b"\x00\x01\x00\x01",
+        b"\x00\x02\x01",
+        9,
+    );
+    show(
+        b"a dart twice",
+        2,
+        b"\x00\x01\x00\x01",
+        b"\x00\x00\x01\x03",
+        9,
+    );
+    show(
+        b"a dart of the other post",
+        2,
+        b"\x00\x01\x00\x01",
+        b"\x00\x01\x02\x03",
+        9,
+    );
+    show(
+        b"a dart that is not there",
+        2,
+        b"\x00\x01\x00\x01",
+        b"\x00\x04\x01\x03",
+        9,
+    );
+    show(
+        b"outer dart too high",
+        4,
+        b"\x00\x01\x02\x03",
+        b"\x00\x01\x02\x03",
+        4,
+    );
+    show(
+        b"two pieces",
+        4,
+        b"\x00\x01\x02\x03",
+        b"\x00\x01\x02\x03",
+        3,
+    );
+    show(b"a post alone", 3, b"\x00\x01", b"\x00\x01", 1);
+    show(
+        b"not plane",
+        2,
+        b"\x00\x01\x00\x01\x00\x01",
+        b"\x00\x02\x04\x01\x03\x05",
+        5,
+    );
+}
+
+fn main() {
+    plates_to_try();
+    posts_and_strips();
+    order_and_whole();
+}
