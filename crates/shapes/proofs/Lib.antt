@@ -28,3 +28,10 @@ pub mod Accepted
 pub mod Demands
 pub mod Turns
 pub mod Tried
+pub mod Groups
+pub mod Upward
+pub mod AnglesFront
+pub mod FaceNumbers
+pub mod Sides
+pub mod HeldPlate
+pub mod Verdict

@@ -67,7 +67,7 @@ module _ (p : Plate) (o : Ordered p) where
   abbrev face : ℕ → List ℕ
   face i = faceOf p (getD (faces p) i 0)
 
-  one-face : (d : ℕ) → d < darts p → (f : ℕ) → isIn f (faces p) ≡ true → isIn d (faceOf p f) ≡ eqb f (lead p d)
+  pub one-face : (d : ℕ) → d < darts p → (f : ℕ) → isIn f (faces p) ≡ true → isIn d (faceOf p f) ≡ eqb f (lead p d)
   one-face d l f i =
       same-test (isIn d (faceOf p f)) (eqb f (lead p d)) (λ h. eq-eqb f (lead p d) (face-lead p o f d l i h))
       (λ e. subst (λ (g : ℕ). isIn d (faceOf p g) ≡ true) (sym (eqb-true f (lead p d) e)) (lead-face p o d l))
