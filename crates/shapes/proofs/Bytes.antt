@@ -16,11 +16,8 @@ use Rattle.shapes.proofs.Excess.{excess-most, excess-few}
 
 module _ (p : Plate) (f : Faultless p) (o : Ordered p) (xs : List ℕ) (long : length xs ≡ darts p)
     (most : (d : ℕ) → d < darts p → getD xs d 0 ≤ excess (networkOf p)) where
-  unit-most : (d : ℕ) → d < darts p → getD xs d 0 ≤ 198
+  pub unit-most : (d : ℕ) → d < darts p → getD xs d 0 ≤ 198
   unit-most d l = omega (arith, most d l, excess-most p f o, excess-few p f o)
-
-  pub unit-fits : (d : ℕ) → d < darts p → getD xs d 0 < 256
-  unit-fits d l = omega (arith, unit-most d l)
 
   pub total-fits : total xs < 65536
   total-fits =

@@ -16,10 +16,8 @@ use Rattle.embedding.specs.declared.Plate.{Plate as Held}
 use Rattle.embedding.proofs.Rotation.{twin-dart, leaves-below}
 use Rattle.embedding.proofs.Degrees.{darts-most, darts-few}
 use Rattle.shapes.specs.Claims.{Accepted}
-use Rattle.shapes.specs.NetworkOf.{faceIndex}
 use Rattle.shapes.specs.Judge.{Keys, Counts}
 use Rattle.shapes.proofs.Accepted.{faultless, ordered}
-use Rattle.shapes.proofs.FaceNumbers.{number-is-index}
 use Rattle.shapes.proofs.Places.{index-below}
 
 all-below : (n : ℕ) (xs : List ℕ) → ((i : ℕ) → i < length xs → getD xs i 0 < n) → allBelow n xs ≡ true
@@ -38,8 +36,8 @@ module _ {q : Held} {p : Plate} (s : Stands q p) (a : Accepted p) where
   pub ends-are : (d : ℕ) → d < darts p → getD (q .ends) (twin d) 0 ≡ endsAt p d
   ends-are d l = s .strip-ends .at (twin d) (omega (arith, twin-dart p (ordered p a) d l, few-darts))
 
-  pub faces-are : (d : ℕ) → d < darts p → getD (q .face) d 0 ≡ faceIndex p d
-  faces-are d l = s .face-numbers .at d (omega (arith, few-darts)) ∙ up-below (darts p) (faceNumber p) d l ∙ number-is-index p (ordered p a) d l
+  pub faces-are : (d : ℕ) → d < darts p → getD (q .face) d 0 ≡ faceNumber p d
+  faces-are d l = s .face-numbers .at d (omega (arith, few-darts)) ∙ up-below (darts p) (faceNumber p) d l
 
   pub ends-keys : Keys 64 (q .ends)
   ends-keys = record { long = s .strip-ends .size; below = all-below 64 (q .ends) (λ i l. at i l (decLt i (darts p))) }

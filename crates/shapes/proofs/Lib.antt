@@ -17,7 +17,7 @@ pub mod Straight
 pub mod OneWord
 pub mod Order
 pub mod OneBest
-pub mod BestShape
+pub mod LeastShape
 pub mod Moves
 pub mod Angles
 pub mod Settled
@@ -25,13 +25,16 @@ pub mod SomeFlow
 pub mod FirstList
 pub mod SomeLeast
 pub mod Accepted
+pub mod Filled
+pub mod Laid
+pub mod Results
+pub mod Halves
 pub mod Demands
 pub mod Turns
 pub mod Tried
 pub mod Groups
 pub mod Upward
 pub mod AnglesFront
-pub mod FaceNumbers
 pub mod Sides
 pub mod HeldPlate
 pub mod Verdict

@@ -12,7 +12,7 @@ use Rattle.finite.proofs.Tests.{same-test, eqb-turned}
 use Rattle.embedding.specs.Plates.{when, Plate, darts, twin, leaves, faceOf, faces, connected}
 use Rattle.embedding.proofs.Rotation.{Ordered, twin-twin, twin-dart, after-below}
 use Rattle.embedding.proofs.Dual.{dual-spreads}
-use Rattle.shapes.specs.NetworkOf.{faceIndex}
+use Rattle.embedding.specs.Read.{faceNumber}
 use Rattle.shapes.proofs.Places.{index-sum, index-after, index-of-lead, face-below-darts}
 
 pub over-add : (ds : List ℕ) (f g : ℕ → ℕ) → sumOver ds (λ d. f d + g d) ≡ sumOver ds f + sumOver ds g
@@ -78,14 +78,14 @@ module _ (p : Plate) where
 
 module _ (p : Plate) (o : Ordered p) where
   -- a unit on one dart
-  unit-at : (d : ℕ) → d < darts p → (i : ℕ) → i < length (faces p) → sumOver (faceOf p (getD (faces p) i 0)) (λ e. when (eqb e d) 1) ≡ when (eqb i (faceIndex p d)) 1
+  unit-at : (d : ℕ) → d < darts p → (i : ℕ) → i < length (faces p) → sumOver (faceOf p (getD (faces p) i 0)) (λ e. when (eqb e d) 1) ≡ when (eqb i (faceNumber p d)) 1
   unit-at d l i k =
       sym (index-sum p o i k (λ e. when (eqb e d) 1))
-      ∙ sum-cong (darts p) (λ e. when (eqb (faceIndex p e) i) (when (eqb e d) 1)) (λ e. when (eqb e d) (when (eqb (faceIndex p e) i) 1)) (λ e h. when-swap (eqb (faceIndex p e) i) (eqb e d) 1)
-      ∙ sum-at (darts p) d (λ e. when (eqb (faceIndex p e) i) 1) l
-      ∙ ap (λ (b : Bool). when b 1) (eqb-turned (faceIndex p d) i)
+      ∙ sum-cong (darts p) (λ e. when (eqb (faceNumber p e) i) (when (eqb e d) 1)) (λ e. when (eqb e d) (when (eqb (faceNumber p e) i) 1)) (λ e h. when-swap (eqb (faceNumber p e) i) (eqb e d) 1)
+      ∙ sum-at (darts p) d (λ e. when (eqb (faceNumber p e) i) 1) l
+      ∙ ap (λ (b : Bool). when b 1) (eqb-turned (faceNumber p d) i)
 
-  across : (d : ℕ) → d < darts p → Moves p (faceIndex p d) (faceIndex p (twin d)) 1
+  across : (d : ℕ) → d < darts p → Moves p (faceNumber p d) (faceNumber p (twin d)) 1
   across d l = record { by = λ e. when (eqb e d) 1; kept = λ i h. omega (arith, unit-at d l i h, unit-at (twin d) (twin-dart p o d l) i h, over i) }
     where
       over : (i : ℕ) → comes p (λ e. when (eqb e d) 1) i ≡ goes p (λ e. when (eqb e (twin d)) 1) i
@@ -93,12 +93,12 @@ module _ (p : Plate) (o : Ordered p) where
 
   -- from the face of a dart of post 0 to each face
   module _ (c : connected p ≡ true) (r : ℕ) (r-dart : r < darts p) (r-first : leaves p r ≡ 0) where
-    to-dart : (e : ℕ) → e < darts p → Moves p (faceIndex p r) (faceIndex p e) 1
+    to-dart : (e : ℕ) → e < darts p → Moves p (faceNumber p r) (faceNumber p e) 1
     to-dart =
-        dual-spreads p o (λ e. Moves p (faceIndex p r) (faceIndex p e) 1)
-        (λ d l m. subst (λ (k : ℕ). Moves p (faceIndex p r) k 1) (sym (index-after p o d l (after-below p o d l))) m)
-        (λ d l m. onward p (faceIndex p r) (faceIndex p d) (faceIndex p (twin d)) 1 m (across d l))
-        c r r-dart r-first (stay p (faceIndex p r) 1)
+        dual-spreads p o (λ e. Moves p (faceNumber p r) (faceNumber p e) 1)
+        (λ d l m. subst (λ (k : ℕ). Moves p (faceNumber p r) k 1) (sym (index-after p o d l (after-below p o d l))) m)
+        (λ d l m. onward p (faceNumber p r) (faceNumber p d) (faceNumber p (twin d)) 1 m (across d l))
+        c r r-dart r-first (stay p (faceNumber p r) 1)
 
-    pub to-face : (n i : ℕ) → i < length (faces p) → Moves p (faceIndex p r) i n
-    to-face n i l = subst (λ (k : ℕ). Moves p (faceIndex p r) k n) (index-of-lead p o i l) (many p _ _ (to-dart (getD (faces p) i 0) (face-below-darts p o i l)) n)
+    pub to-face : (n i : ℕ) → i < length (faces p) → Moves p (faceNumber p r) i n
+    to-face n i l = subst (λ (k : ℕ). Moves p (faceNumber p r) k n) (index-of-lead p o i l) (many p _ _ (to-dart (getD (faces p) i 0) (face-below-darts p o i l)) n)

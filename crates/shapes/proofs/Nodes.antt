@@ -14,11 +14,12 @@ use Rattle.flow.proofs.Names.{arcs, nodes, supply, demand}
 use Rattle.embedding.specs.Plates.{Plate, darts, twin, endsAt, faceOf, faces}
 use Rattle.embedding.proofs.Rotation.{Ordered, twin-twin}
 use Rattle.embedding.proofs.Totals.{endSum, twins-sum, ends-at-below}
-use Rattle.shapes.specs.NetworkOf.{table, faceIndex, faceNode, faceSupply, faceDemand, networkOf}
+use Rattle.shapes.specs.NetworkOf.{table, faceNode, faceSupply, faceDemand, networkOf}
+use Rattle.embedding.specs.Read.{faceNumber}
 use Rattle.shapes.proofs.Tables.{length-table, getD-first, getD-second, getD-map-in, units-append, units-table}
 use Rattle.shapes.proofs.Places.{index-sum}
 
-eqb-shift : (n a b : ℕ) → eqb (n + a) (n + b) ≡ eqb a b
+pub eqb-shift : (n a b : ℕ) → eqb (n + a) (n + b) ≡ eqb a b
 eqb-shift n a b =
     same-test (eqb (n + a) (n + b)) (eqb a b) (λ e. eq-eqb a b (omega (arith, eqb-true (n + a) (n + b) e))) (λ e. eq-eqb (n + a) (n + b) (omega (arith, eqb-true a b e)))
 
@@ -64,15 +65,15 @@ module _ (p : Plate) (o : Ordered p) (xs cs : List ℕ) (xs-long : length xs ≡
     no-face f g = sum-no (darts p) (λ d. eqb (p .posts + f d) v) g (λ d k. ne-eqb (p .posts + f d) v (λ (q : p .posts + f d ≡ v). omega arith))
 
     pub post-out : unitsAt (networkOf p .tails) (xs ++ cs) v ≡ endSum p (λ d. getD cs d 0) v
-    post-out = omega (arith, units-two (λ d. faceNode p d) (λ d. endsAt p d) v, no-face (λ d. faceIndex p d) (λ d. getD xs d 0))
+    post-out = omega (arith, units-two (λ d. faceNode p d) (λ d. endsAt p d) v, no-face (λ d. faceNumber p d) (λ d. getD xs d 0))
 
     pub post-in : unitsAt (networkOf p .heads) (xs ++ cs) v ≡ 0
     post-in =
         omega (
           arith,
           units-two (λ d. faceNode p (twin d)) (λ d. faceNode p d) v,
-          no-face (λ d. faceIndex p (twin d)) (λ d. getD xs d 0),
-          no-face (λ d. faceIndex p d) (λ d. getD cs d 0),
+          no-face (λ d. faceNumber p (twin d)) (λ d. getD xs d 0),
+          no-face (λ d. faceNumber p d) (λ d. getD cs d 0),
         )
 
   module _ (i : ℕ) (l : i < length (faces p)) where
@@ -81,8 +82,8 @@ module _ (p : Plate) (o : Ordered p) (xs cs : List ℕ) (xs-long : length xs ≡
 
     at-face : (g : ℕ → ℕ) → sumBelow (darts p) (λ d. when (eqb (faceNode p d) (p .posts + i)) (g d)) ≡ sumOver darts-of g
     at-face g =
-        sum-cong (darts p) (λ d. when (eqb (faceNode p d) (p .posts + i)) (g d)) (λ d. when (eqb (faceIndex p d) i) (g d))
-        (λ d k. ap (λ (b : Bool). when b (g d)) (eqb-shift (p .posts) (faceIndex p d) i))
+        sum-cong (darts p) (λ d. when (eqb (faceNode p d) (p .posts + i)) (g d)) (λ d. when (eqb (faceNumber p d) i) (g d))
+        (λ d k. ap (λ (b : Bool). when b (g d)) (eqb-shift (p .posts) (faceNumber p d) i))
         ∙ index-sum p o i l g
 
     across : (g : ℕ → ℕ) → sumBelow (darts p) (λ d. when (eqb (faceNode p (twin d)) (p .posts + i)) (g d)) ≡ sumOver darts-of (λ d. g (twin d))

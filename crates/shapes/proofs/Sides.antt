@@ -7,10 +7,10 @@ use native.Mathlib.Omega.{arith}
 use lib.Dec.{eqb}
 use lib.ListN.{length, getD}
 use Rattle.finite.proofs.Sums.{sumBelow, sumOver, sum-cong}
+use Rattle.embedding.specs.Read.{faceNumber}
 use Rattle.embedding.specs.Plates.{when, Plate, darts, strips, twin, endsAt, faces, faceOf}
 use Rattle.embedding.proofs.Rotation.{Ordered}
 use Rattle.shapes.specs.Shapes.{rights, lefts, nthW, plusSide, minusSide, angleSum, wordsFrom}
-use Rattle.shapes.specs.NetworkOf.{faceIndex}
 use Rattle.shapes.specs.Judge.{groupSum}
 use Rattle.shapes.proofs.Groups.{group-sum}
 use Rattle.shapes.proofs.Meets.{lefts-at}
@@ -49,15 +49,15 @@ module _ (p : Plate) (o : Ordered p) (rs : List ℕ) (long : length rs ≡ darts
       ∙ sym (lefts-at (darts p) ws (λ e k. words-twins (strips p) rs e (omega (arith, two-each))) d l)
 
   -- the i-th face, each dart with the number of its face
-  module _ (n : ℕ) (all : n ≡ darts p) (key : ℕ → ℕ) (same : (d : ℕ) → d < darts p → key d ≡ faceIndex p d) (i : ℕ) (l : i < length (faces p)) where
+  module _ (n : ℕ) (all : n ≡ darts p) (key : ℕ → ℕ) (same : (d : ℕ) → d < darts p → key d ≡ faceNumber p d) (i : ℕ) (l : i < length (faces p)) where
     pub plus-group : groupSum n key (λ d. getD rs d 0 + 2) i ≡ plusSide (faceOf p (getD (faces p) i 0)) ws
     plus-group =
-        group-cong n (darts p) key (faceIndex p) (λ d. getD rs d 0 + 2) (λ d. rights (nthW ws d) + 2) i all same (λ d k. ap (λ (x : ℕ). x + 2) (rights-are d))
+        group-cong n (darts p) key (faceNumber p) (λ d. getD rs d 0 + 2) (λ d. rights (nthW ws d) + 2) i all same (λ d k. ap (λ (x : ℕ). x + 2) (rights-are d))
         ∙ index-sum p o i l (λ d. rights (nthW ws d) + 2) ∙ sym (plus-sum ws (faceOf p (getD (faces p) i 0)))
 
     pub minus-group : (al : List ℕ) → groupSum n key (λ d. getD rs (twin d) 0 + getD al d 0) i ≡ minusSide (faceOf p (getD (faces p) i 0)) al ws
     minus-group al =
-        group-cong n (darts p) key (faceIndex p) (λ d. getD rs (twin d) 0 + getD al d 0) (λ d. lefts (nthW ws d) + getD al d 0) i all same (λ d k. ap (λ (x : ℕ). x + getD al d 0) (lefts-are d k))
+        group-cong n (darts p) key (faceNumber p) (λ d. getD rs (twin d) 0 + getD al d 0) (λ d. lefts (nthW ws d) + getD al d 0) i all same (λ d k. ap (λ (x : ℕ). x + getD al d 0) (lefts-are d k))
         ∙ index-sum p o i l (λ d. lefts (nthW ws d) + getD al d 0) ∙ sym (minus-sum al ws (faceOf p (getD (faces p) i 0)))
 
 pub angle-group : (p : Plate) (al : List ℕ) (n : ℕ) → n ≡ darts p → (key : ℕ → ℕ) → ((d : ℕ) → d < darts p → key d ≡ endsAt p d)

@@ -14,7 +14,8 @@ use Rattle.embedding.proofs.Faces.{faces-sum}
 use Rattle.embedding.proofs.Faultless.{Faultless}
 use Rattle.embedding.proofs.Totals.{endSum, posts-sum}
 use Rattle.shapes.specs.Claims.{balanced, isFlow}
-use Rattle.shapes.specs.NetworkOf.{table, faceIndex, faceSupply, faceDemand}
+use Rattle.shapes.specs.NetworkOf.{table, faceSupply, faceDemand}
+use Rattle.embedding.specs.Read.{faceNumber}
 use Rattle.shapes.proofs.Totals.{out-sum, in-sum, corners-sum}
 use Rattle.shapes.proofs.Tables.{length-table, getD-table}
 use Rattle.shapes.proofs.Places.{index-sum}
@@ -36,7 +37,7 @@ module _ (p : Plate) (f : Faultless p) (o : Ordered p) where
   over-same : (i : ℕ) → i < F → (g h : ℕ → ℕ) → ((d : ℕ) → d < darts p → g d ≡ h d) → sumOver (face i) g ≡ sumOver (face i) h
   over-same i l g h e =
       sym (index-sum p o i l g)
-      ∙ sum-cong (darts p) (λ d. when (eqb (faceIndex p d) i) (g d)) (λ d. when (eqb (faceIndex p d) i) (h d)) (λ d k. ap (when (eqb (faceIndex p d) i)) (e d k))
+      ∙ sum-cong (darts p) (λ d. when (eqb (faceNumber p d) i) (g d)) (λ d. when (eqb (faceNumber p d) i) (h d)) (λ d k. ap (when (eqb (faceNumber p d) i)) (e d k))
       ∙ index-sum p o i l h
 
   corners-all : sumBelow F (λ i. sumOver (face i) (angle p f o)) ≡ p .posts * 4
@@ -58,7 +59,7 @@ module _ (p : Plate) (f : Faultless p) (o : Ordered p) where
   moved =
       let some : 0 < p .posts = omega (arith, f .some-post) in
       let r = leaves-there p f o 0 some in
-      settled p has wants (faceIndex p (leaving p f o 0)) (to-face p o (f .is-connected) (leaving p f o 0) (r .0) (r .1)) even
+      settled p has wants (faceNumber p (leaving p f o 0)) (to-face p o (f .is-connected) (leaving p f o 0) (r .0) (r .1)) even
 
   abbrev pub some-corners : List ℕ
   some-corners = table (darts p) (angle p f o)

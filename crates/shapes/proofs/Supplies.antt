@@ -13,7 +13,8 @@ use Rattle.embedding.specs.Plates.{pick, when, isIn, Plate, darts, faceOf, face
 use Rattle.embedding.proofs.Rotation.{Ordered}
 use Rattle.embedding.proofs.Faces.{face-start, faces-degrees}
 use Rattle.embedding.proofs.Faultless.{Faultless}
-use Rattle.shapes.specs.NetworkOf.{faceIndex, isOuter, faceSupply, faceDemand}
+use Rattle.shapes.specs.NetworkOf.{isOuter, faceSupply, faceDemand}
+use Rattle.embedding.specs.Read.{faceNumber}
 use Rattle.shapes.proofs.Places.{index-below, index-test, face-below-darts}
 
 sum-twice : (n : ℕ) (g : ℕ → ℕ) → sumBelow n (λ i. 2 * g i) ≡ 2 * sumBelow n g
@@ -36,9 +37,9 @@ module _ (p : Plate) (o : Ordered p) where
   -- a dart is in one face
   pub one-place : (d c : ℕ) → d < darts p → sumBelow (length (faces p)) (λ i. when (isIn d (faceOf p (getD (faces p) i 0))) c) ≡ c
   one-place d c l =
-      sum-cong (length (faces p)) (λ i. when (isIn d (faceOf p (getD (faces p) i 0))) c) (λ i. when (eqb i (faceIndex p d)) c)
-      (λ i k. ap (λ (b : Bool). when b c) (sym (index-test p o d l i k) ∙ eqb-turned (faceIndex p d) i))
-      ∙ sum-at (length (faces p)) (faceIndex p d) (λ i. c) (index-below p o d l)
+      sum-cong (length (faces p)) (λ i. when (isIn d (faceOf p (getD (faces p) i 0))) c) (λ i. when (eqb i (faceNumber p d)) c)
+      (λ i k. ap (λ (b : Bool). when b c) (sym (index-test p o d l i k) ∙ eqb-turned (faceNumber p d) i))
+      ∙ sum-at (length (faces p)) (faceNumber p d) (λ i. c) (index-below p o d l)
 
   pub face-some : (i : ℕ) → i < length (faces p) → 1 ≤ length (faceOf p (getD (faces p) i 0))
   face-some i l = let d = getD (faces p) i 0 in in-long d (faceOf p d) (face-start p o d (face-below-darts p o i l))

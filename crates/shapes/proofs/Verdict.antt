@@ -9,11 +9,10 @@ use lib.ListN.{length, getD}
 use Rattle.finite.specs.Tables.{Table}
 use Rattle.finite.proofs.Tests.{same-test, eqb-turned, from-each, each-from, over-each, each-over}
 use Rattle.embedding.specs.Plates.{isIn, Plate, darts, twin, faces, faceOf}
-use Rattle.embedding.specs.Read.{Stands}
+use Rattle.embedding.specs.Read.{faceNumber, Stands}
 use Rattle.embedding.specs.declared.Plate.{Plate as Held}
 use Rattle.shapes.specs.Shapes.{anglesOk, angleSum, postsOk, plusSide, minusSide, faceOk, facesOk, shapeOf}
 use Rattle.shapes.specs.Claims.{Accepted}
-use Rattle.shapes.specs.NetworkOf.{faceIndex}
 use Rattle.shapes.specs.Judge.{judgement, postAngles, facePlus, faceMinus, allFour, turnsOk, allTurn}
 use Rattle.shapes.proofs.Accepted.{ordered}
 use Rattle.shapes.proofs.HeldPlate.{few-posts, few-faces, ends-are, faces-are, outer-below}
@@ -64,7 +63,7 @@ module _ {q : Held} {p : Plate} (s : Stands q p) (a : Accepted p) (al : List ℕ
       (out : outer ≡ getD (q .face) (q .outer) 0) where
     outer-is : (i : ℕ) → i < length (faces p) → eqb i outer ≡ isIn (p .outer) (faceOf p (getD (faces p) i 0))
     outer-is i l =
-        let e : outer ≡ faceIndex p (p .outer) = out ∙ faces-are s a (q .outer) (outer-below s a) ∙ ap (faceIndex p) (s .outer-dart) in
+        let e : outer ≡ faceNumber p (p .outer) = out ∙ faces-are s a (q .outer) (outer-below s a) ∙ ap (faceNumber p) (s .outer-dart) in
         eqb-turned i outer ∙ ap (λ (k : ℕ). eqb k i) e ∙ index-test p (ordered p a) (p .outer) (omega (arith, outer-below s a, s .outer-dart)) i l
 
     face-tested : (i : ℕ) → i < length (faces p) → turnsOk (eqb i outer) (getD plus i 0) (getD minus i 0) ≡ faceOk p al (shapeOf p al rs .words) (getD (faces p) i 0)

@@ -6,6 +6,8 @@ use mathlib.Core.List.{List, [], _∷_}
 use Prim.Native.Nat.{ℕ, zero, suc, _+_, _*_, _%_, _≤_}
 use lib.Dec.{eqb, leb}
 use lib.ListN.{length, getD}
+use Rattle.embedding.specs.Read.{Stands}
+use Rattle.embedding.specs.declared.Plate.{Plate as Held}
 use Rattle.embedding.specs.Plates.{pick, when, isIn, Plate, darts, twin, endsAt, faces, faceOf, plateFault}
 use Rattle.shapes.specs.Shapes.{Shape, meets, bends, comesFirst, rightsOf, total, shapeOf}
 
@@ -19,6 +21,10 @@ pub record Best (p : Plate) (s : Shape) : Type 0 where
 pub record Accepted (p : Plate) : Type 0 where
   pub no-fault : plateFault p ≡ 0
   pub even-darts : darts p % 2 ≡ 0
+
+-- a plate as held by code stands for an accepted one
+abbrev pub Standing : Held → Type 0
+Standing q = (p : Plate) × Stands q p × Accepted p
 
 -- each accepted plate has one, with the words that a file's counts give
 pub record Demand-3 : Type 0 where

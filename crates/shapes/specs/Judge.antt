@@ -6,18 +6,11 @@ use Prim.Native.Nat.{ℕ, zero, suc, _+_, _%_, _≤_}
 use lib.Dec.{eqb}
 use lib.ListN.{length, getD}
 use Rattle.embedding.specs.Plates.{pick, when, firstOf, allBelow, Plate, twin, faces}
-use Rattle.embedding.specs.Read.{Stands}
-use Rattle.embedding.specs.declared.Plate.{Plate as Held}
 use Rattle.shapes.specs.Shapes.{anglesOk, postsOk, facesOk, shapeOf}
-use Rattle.shapes.specs.Claims.{Accepted}
 
 -- 19 an angle outside 1 to 4; 20 angles at a post; 21 turns of a face
 abbrev pub judgement : Plate → List ℕ → List ℕ → ℕ
 judgement p a r = firstOf (when (not (anglesOk a)) 19) (firstOf (when (not (postsOk (p .posts) 0 p a)) 20) (when (not (facesOk p a (shapeOf p a r .words) (faces p))) 21))
-
--- a plate as held stands for an accepted one
-abbrev pub Standing : Held → Type 0
-Standing q = (p : Plate) × Stands q p × Accepted p
 
 -- the sum of g over the numbers below n whose key is k
 abbrev pub groupSum : ℕ → (ℕ → ℕ) → (ℕ → ℕ) → ℕ → ℕ

@@ -7,8 +7,8 @@ ghost use Rattle.finite.specs.Tables.{Table};
 ghost use Rattle.embedding.specs.Plates.{Plate as PlateOf, twin, allBelow, faces};
 ghost use Rattle.embedding.specs.Read.{Stands};
 ghost use Rattle.shapes.specs.Shapes.{anglesOk, postsOk, facesOk, shapeOf};
-ghost use Rattle.shapes.specs.Claims.{Accepted};
-ghost use Rattle.shapes.specs.Judge.{judgement, Standing, Keys, Counts, postAngles, facePlus, faceMinus, allFour, turnsOk, allTurn};
+ghost use Rattle.shapes.specs.Claims.{Standing, Accepted};
+ghost use Rattle.shapes.specs.Judge.{judgement, Keys, Counts, postAngles, facePlus, faceMinus, allFour, turnsOk, allTurn};
 use embedding::Plate;
 
 fn twin_of(d: usize) -> usize
