@@ -75,7 +75,8 @@ fn wide(b: u8) -> usize
     b as usize
 }
 
-fn twin_of(d: usize) -> usize
+// The other dart of the strip of `d`.
+pub fn twin_of(d: usize) -> usize
     requires { ⌜ d < 256 ⌝ }
     ensures { λ r. ⌜ r ≡ twin d ⌝ }
 {

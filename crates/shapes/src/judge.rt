@@ -10,13 +10,7 @@ ghost use Rattle.shapes.specs.Shapes.{anglesOk, postsOk, facesOk, shapeO
 ghost use Rattle.shapes.specs.Claims.{Standing, Accepted};
 ghost use Rattle.shapes.specs.Judge.{judgement, Keys, Counts, postAngles, facePlus, faceMinus, allFour, turnsOk, allTurn};
 use embedding::Plate;
-
-fn twin_of(d: usize) -> usize
-    requires { ⌜ d < 256 ⌝ }
-    ensures { λ r. ⌜ r ≡ twin d ⌝ }
-{
-    if d % 2 == 0 { d + 1 } else { d - 1 }
-}
+use embedding::twin_of;
 
 // The post or face of dart `d`.
 fn key_of(keys: &[u8], n: usize, d: usize) -> usize

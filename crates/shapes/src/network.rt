@@ -10,13 +10,7 @@ ghost use Rattle.shapes.specs.Claims.{Standing, Accepted};
 ghost use Rattle.shapes.specs.NetworkOf.{networkOf};
 ghost use Rattle.shapes.specs.Entries.{nodeAt, tailAt, headAt, halfAt, supplyAt, demandAt, Faced, Sized, Lent};
 use embedding::Plate;
-
-fn twin_of(d: usize) -> usize
-    requires { ⌜ d < 256 ⌝ }
-    ensures { λ r. ⌜ r ≡ twin d ⌝ }
-{
-    if d % 2 == 0 { d + 1 } else { d - 1 }
-}
+use embedding::twin_of;
 
 // The node of the face of dart `d`.
 fn node_of(posts: usize, darts: usize, face: &[u8], d: usize) -> u8

@@ -1,0 +1,147 @@
+//! The best shapes of document 01's plates, and verdicts on other shapes of P1. The expected lines are document 01's.
+ghost use mathlib.Core.Path.{_≡_};
+ghost use Prim.Native.Nat.{_%_, _≤_};
+ghost use lib.ListN.{length};
+use embedding::read_plate;
+use libc::STDOUT_FILENO;
+use shapes::best::best;
+use shapes::judge::judge;
+
+// Writes numbers behind a word.
+fn show_counts(word: &[u8], darts: usize, counts: [u8; 256])
+    requires { ⌜ darts ≤ 256 ⌝ }
+{
+    io::write_all(STDOUT_FILENO, word);
+    let mut d = 0;
+    while d < darts {
+        io::write_all(STDOUT_FILENO, b" ");
+        io::print_decimal(STDOUT_FILENO, counts[d] as u64);
+        d += 1;
+    }
+}
+
+// Writes a line: the label, the bends, the right bends and the angles by dart.
+fn show(label: &[u8], posts: u8, ends: &[u8], order: &[u8], outer: u8)
+    requires { ⌜ (length (now ends) ≤ 256) × (length (now ends) % 2 ≡ 0) × (length (now order) ≤ 256) ⌝ }
+{
+    io::write_all(STDOUT_FILENO, label);
+    let r = read_plate(posts, ends, order, outer);
+    if r.number != 0 {
+        io::write_all(STDOUT_FILENO, b" refused\n");
+        return;
+    }
+    let s = best(r.plate);
+    let rights = s.rights;
+    let angles = s.angles;
+    io::write_all(STDOUT_FILENO, b" bends ");
+    io::print_decimal(STDOUT_FILENO, s.total as u64);
+    show_counts(b" rights", ends.len(), rights);
+    show_counts(b" angles", ends.len(), angles);
+    io::write_all(STDOUT_FILENO, b"\n");
+}
+
+// The verdict on a shape of P1 with these angles and right bends.
+fn verdict(label: &[u8], angles: &[u8], rights: &[u8]) {
+    io::write_all(STDOUT_FILENO, label);
+    let r = read_plate(2, b"\x00\x01\x00\x01", b"\x00\x02\x01\x03", 1);
+    if r.number != 0 {
+        return;
+    }
+    if angles.len() != r.plate.darts {
+        return;
+    }
+    if rights.len() != r.plate.darts {
+        return;
+    }
+    io::write_all(STDOUT_FILENO, b" ");
+    io::print_decimal(STDOUT_FILENO, judge(r.plate, angles, rights) as u64);
+    io::write_all(STDOUT_FILENO, b"\n");
+}
+
+fn shapes_to_try() {
+    show(b"P1", 2, b"\x00\x01\x00\x01", b"\x00\x02\x01\x03", 1);
+    show(
+        b"P2",
+        3,
+        b"\x00\x01\x01\x02\x02\x00",
+        b"\x00\x05\x01\x02\x03\x04",
+        1,
+    );
+    show(
+        b"P3",
+        4,
+        b"\x00\x01\x01\x02\x02\x03\x03\x00",
+        b"\x00\x07\x01\x02\x03\x04\x05\x06",
+        1,
+    );
+    show(b"P4", 2, b"\x00\x01", b"\x00\x01", 0);
+    show(
+        b"P5",
+        5,
+        b"\x00\x01\x00\x02\x00\x03\x00\x04",
+        b"\x00\x02\x04\x06\x01\x03\x05\x07",
+        1,
+    );
+    show(b"P6", 3, b"\x00\x01\x01\x02", b"\x00\x01\x02\x03", 1);
+    show(
+        b"P7",
+        2,
+        b"\x00\x01\x00\x01\x00\x01",
+        b"\x00\x02\x04\x05\x03\x01",
+        1,
+    );
+    show(
+        b"P8",
+        2,
+        b"\x00\x01\x00\x01\x00\x01",
+        b"\x00\x02\x04\x01\x03\x05",
+        1,
+    );
+}
+
+fn verdicts() {
+    // The shape that document 01 gives.
+    verdict(b"P1's own", b"\x01\x03\x03\x01", b"\x00\x00\x00\x02");
+    // The two strips bend alike from the other side, with as many bends.
+    verdict(
+        b"P1, bends on dart 0",
+        b"\x01\x03\x03\x01",
+        b"\x02\x00\x00\x00",
+    );
+    // Each strip bends right and left once more.
+    verdict(
+        b"P1, two bends more",
+        b"\x01\x03\x03\x01",
+        b"\x00\x00\x01\x03",
+    );
+    // 19 comes before 20: dart 0 has no angle.
+    verdict(
+        b"P1, an angle of 0",
+        b"\x00\x03\x03\x01",
+        b"\x00\x00\x00\x02",
+    );
+    verdict(
+        b"P1, an angle of 5",
+        b"\x05\x03\x03\x01",
+        b"\x00\x00\x00\x02",
+    );
+    // 20 comes before 21: the angles at post 1 add to 5.
+    verdict(
+        b"P1, angles at a post",
+        b"\x02\x03\x03\x01",
+        b"\x00\x00\x00\x02",
+    );
+    // No bend: the turns of the inner face add to 2.
+    verdict(b"P1, no bend", b"\x01\x03\x03\x01", b"\x00\x00\x00\x00");
+    // The inner face bends outwards.
+    verdict(
+        b"P1, bends on dart 2",
+        b"\x01\x03\x03\x01",
+        b"\x00\x00\x02\x00",
+    );
+}
+
+fn main() {
+    shapes_to_try();
+    verdicts();
+}
