@@ -38,3 +38,5 @@ pub mod AnglesFront
 pub mod Sides
 pub mod HeldPlate
 pub mod Verdict
+pub mod BestFits
+pub mod Theorems
