@@ -1,0 +1,128 @@
+-- What the check promises, from what its steps give: the list's refusal, the shape file's, the one judged, 22, or a sound verdict. Assumes nothing.
+use mathlib.Core.Path.{_≡_, refl, sym, ap, subst, _∙_}
+use mathlib.Core.Bool.{Bool, true, false, _&&_, not}
+use mathlib.Core.List.{List}
+use Prim.Native.Nat.{ℕ, zero, suc, _≤_}
+use native.Mathlib.Omega.{arith}
+use lib.Dec.{eqb, lit<}
+use lib.ListN.{length}
+use borrow.Author.Tests.{eqb-true, eqb-false, eq-eqb, ne-eqb, leb-true}
+use Rattle.finite.proofs.Tests.{and-right}
+use Rattle.fields.specs.Says.{bytesOf}
+use Rattle.fields.specs.declared.Fields.{Fields}
+use Rattle.plates.specs.declared.Verdict.{Verdict}
+use Rattle.plates.specs.Plates.{firstOf, when, pick, darts, faces}
+use Rattle.plates.specs.Shapes.{total, same, anglesOk, postsOk, facesOk, shapeOf}
+use Rattle.plates.specs.Files.{Field, hasTag, contentOf, walkAll, listFault, plateOf}
+use Rattle.plates.specs.Says.{word, anglesIn, rightsIn, checkFault, CheckWith, CheckSays}
+use Rattle.plates.specs.Read.{WalkedFile, shapeFileFault}
+use Rattle.shapes.specs.Judge.{judgement}
+use Rattle.plates.specs.Checks.{refusedVerdict, verdictOf, Judged}
+use Rattle.plates.proofs.Contents.{all-laid, all-there}
+use Rattle.plates.proofs.HeldLists.{walked-content, first-some}
+
+first-assoc : (a b c : ℕ) → firstOf (firstOf a b) c ≡ firstOf a (firstOf b c)
+first-assoc zero b c = refl
+first-assoc (suc a) b c = refl
+
+-- places in turn: the list, the shape file, the verdict
+module _ (s t : List ℕ) where
+  abbrev said : ℕ
+  said = word (contentOf 18 (walkAll true t .fields))
+
+  abbrev last : ℕ
+  last = when (not (eqb said (total (rightsIn t)))) 22
+
+  abbrev judged-then : ℕ
+  judged-then = firstOf (judgement (plateOf s) (anglesIn t) (rightsIn t)) last
+
+  places : checkFault s t ≡ firstOf (listFault s) (firstOf (shapeFileFault s t) judged-then)
+  places =
+      let p = plateOf s in
+      let a = anglesIn t in
+      let r = rightsIn t in
+      let e1 = walkAll true t .number in
+      let e17 = when (not (eqb (length a) (darts p) && eqb (length r) (darts p))) 17 in
+      let e18 = when (not (eqb (word (contentOf 1 (walkAll false s .fields))) (word (contentOf 17 (walkAll true t .fields))))) 18 in
+      let e19 = when (not (anglesOk a)) 19 in
+      let e20 = when (not (postsOk (p .posts) 0 p a)) 20 in
+      let e21 = when (not (facesOk p a (shapeOf p a r .words) (faces p))) 21 in
+      ap (firstOf (listFault s)) (sym (
+      first-assoc e1 (firstOf e17 e18) judged-then
+      ∙ ap (firstOf e1) (first-assoc e17 e18 judged-then)
+      ∙ ap (λ (k : ℕ). firstOf e1 (firstOf e17 (firstOf e18 k))) (first-assoc e19 (firstOf e20 e21) last ∙ ap (firstOf e19) (first-assoc e20 e21 last))
+      ))
+
+  refused-with : (e : ℕ) → (e ≡ 0 → ⊥) → CheckWith e s t (refusedVerdict e)
+  refused-with zero n = absurd (n refl)
+  refused-with (suc e) n = (refl, refl, refl, refl)
+
+  refused-check : (e : ℕ) → checkFault s t ≡ e → (e ≡ 0 → ⊥) → CheckSays s t (refusedVerdict e)
+  refused-check e q n = subst (λ (k : ℕ). CheckWith k s t (refusedVerdict e)) (sym q) (refused-with e n)
+
+  pub list-refused-check : (e : ℕ) → e ≡ listFault s → (e ≡ 0 → ⊥) → CheckSays s t (refusedVerdict e)
+  list-refused-check e q n = refused-check e (places ∙ first-some (listFault s) _ (λ z. n (q ∙ z)) ∙ sym q) n
+
+  module _ (none : listFault s ≡ 0) where
+    pub file-refused-check : (e : ℕ) → e ≡ shapeFileFault s t → (e ≡ 0 → ⊥) → CheckSays s t (refusedVerdict e)
+    file-refused-check e q n =
+        refused-check e (places ∙ ap (λ (k : ℕ). firstOf k (firstOf (shapeFileFault s t) judged-then)) none ∙ first-some (shapeFileFault s t) judged-then (λ z. n (q ∙ z)) ∙ sym q) n
+
+    module _ (sound-file : shapeFileFault s t ≡ 0) where
+      later : checkFault s t ≡ judged-then
+      later = places ∙ ap (λ (k : ℕ). firstOf k (firstOf (shapeFileFault s t) judged-then)) none ∙ ap (λ (k : ℕ). firstOf k judged-then) sound-file
+
+      -- judged, then 22, then sound
+      module _ {judged fewest : ℕ} {a x : List ℕ} (h : Judged s t judged a x fewest) (ours : Bool) (same-counts : ours ≡ (same a (anglesIn t) && same x (rightsIn t))) where
+        sound-check : judged ≡ 0 → said ≡ total (rightsIn t) → CheckSays s t (record { number = 0; total = total (rightsIn t); fewest = fewest; ours = ours })
+        sound-check j q =
+            let good : checkFault s t ≡ 0 =
+            later ∙ ap (λ (k : ℕ). firstOf k last) (sym (h .number) ∙ j) ∙ ap (λ (b : Bool). when (not b) 22) (eq-eqb said (total (rightsIn t)) q) in
+            let v : Verdict = record { number = 0; total = total (rightsIn t); fewest = fewest; ours = ours } in
+            subst (λ (k : ℕ). CheckWith k s t v) (sym good) (refl, refl, (a, x, h .best, h .counts, (h .sum, same-counts)))
+
+        wrong-total : judged ≡ 0 → (said ≡ total (rightsIn t) → ⊥) → CheckSays s t (refusedVerdict 22)
+        wrong-total j n =
+            refused-check 22 (
+            later ∙ ap (λ (k : ℕ). firstOf k last) (sym (h .number) ∙ j) ∙ ap (λ (b : Bool). when (not b) 22) (ne-eqb said (total (rightsIn t)) n)
+            ) (λ z. omega (arith, z))
+
+        judged-wrong : (judged ≡ 0 → ⊥) → CheckSays s t (refusedVerdict judged)
+        judged-wrong n = refused-check judged (later ∙ ap (λ (k : ℕ). firstOf k last) (sym (h .number)) ∙ first-some judged last n) n
+
+        pub verdict-says : CheckSays s t (verdictOf judged said (total (rightsIn t)) fewest ours)
+        verdict-says = go (eqb judged 0) refl (eqb said (total (rightsIn t))) refl
+          where
+            go : (b : Bool) → eqb judged 0 ≡ b → (c : Bool) → eqb said (total (rightsIn t)) ≡ c
+                → CheckSays s t (pick b (pick c (record { number = 0; total = total (rightsIn t); fewest = fewest; ours = ours }) (refusedVerdict 22)) (refusedVerdict judged))
+            go true e true q = sound-check (eqb-true judged 0 e) (eqb-true said (total (rightsIn t)) q)
+            go true e false q = wrong-total (eqb-true judged 0 e) (eqb-false said (total (rightsIn t)) q)
+            go false e c q = judged-wrong (eqb-false judged 0 e)
+
+-- the same from slots
+module _ {t : List ℕ} {g : Fields} (w : WalkedFile true t g) where
+  abbrev us : List Field
+  us = walkAll true t .fields
+
+  there-20 : hasTag 20 us ≡ true
+  there-20 =
+      let e1 = all-there true t (w .passed) in
+      let e2 = and-right (hasTag 17 us) (hasTag 18 us && (hasTag 19 us && hasTag 20 us)) e1 in
+      let e3 = and-right (hasTag 18 us) (hasTag 19 us && hasTag 20 us) e2 in
+      and-right (hasTag 19 us) (hasTag 20 us) e3
+
+  pub rights-few : (r : List ℕ) → r ≡ bytesOf t g 3 → length r ≤ 256
+  rights-few r e = omega (arith, ap length (e ∙ walked-content w 3 (lit< tt)), leb-true (length (contentOf 20 us)) 256 (all-laid true t 20 there-20))
+
+  pub verdict-read : (judged fewest : ℕ) (a x b r : List ℕ) (n k : ℕ) (v : Verdict) (i j ij : Bool) → b ≡ bytesOf t g 2 → r ≡ bytesOf t g 3 → n ≡ word (bytesOf t g 1) → k ≡ total r
+      → i ≡ same a b → j ≡ same x r → ij ≡ (i && j) → v ≡ verdictOf judged n k fewest ij → (s : List ℕ) → Judged s t judged a x fewest → CheckSays s t v
+  verdict-read judged fewest a x b r n k v i j ij angles rights said-is counted i-is j-is ij-is v-is s h =
+      let angles-are : b ≡ anglesIn t = angles ∙ walked-content w 2 (lit< tt) in
+      let rights-are : r ≡ rightsIn t = rights ∙ walked-content w 3 (lit< tt) in
+      let n-is : n ≡ said s t = said-is ∙ ap word (walked-content w 1 (lit< tt)) in
+      let k-is : k ≡ total (rightsIn t) = counted ∙ ap total rights-are in
+      let i-same : i ≡ same a (anglesIn t) = i-is ∙ ap (same a) angles-are in
+      let j-same : j ≡ same x (rightsIn t) = j-is ∙ ap (same x) rights-are in
+      let both : ij ≡ (same a (anglesIn t) && same x (rightsIn t)) = ij-is ∙ ap (λ (c : Bool). c && j) i-same ∙ ap (λ (c : Bool). same a (anglesIn t) && c) j-same in
+      let v-are : v ≡ verdictOf judged (said s t) (total (rightsIn t)) fewest ij = v-is ∙ ap (λ (m : ℕ). verdictOf judged m k fewest ij) n-is ∙ ap (λ (m : ℕ). verdictOf judged (said s t) m fewest ij) k-is in
+      subst (λ (u : Verdict). CheckSays s t u) (sym v-are) (verdict-says s t (h .no-fault) (h .no-file-fault) h ij both)

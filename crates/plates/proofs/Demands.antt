@@ -1,0 +1,52 @@
+-- The demands of Says and of Claims, whole, and the paper's other sentences on files. Assumes nothing.
+use mathlib.Core.Path.{_≡_, sym, ap, subst}
+use mathlib.Core.Bool.{false}
+use mathlib.Core.List.{List}
+use Prim.Native.Nat.{ℕ, _+_, _*_, _≤_}
+use native.Mathlib.Omega.{arith}
+use lib.ListN.{length, getD}
+use Rattle.fields.proofs.Longest as Longest
+use Rattle.shapes.proofs.Accepted.{ordered}
+use Rattle.shapes.proofs.Tamassia.{two-to-a-strip}
+use Rattle.plates.specs.Plates.{Plate, plate, strips}
+use Rattle.plates.specs.Shapes.{rightsOf, shapeOf}
+use Rattle.plates.specs.Files.{walkAll, listFault, plateOf}
+use Rattle.plates.specs.Claims.{Best}
+use Rattle.plates.specs.Says.{fileLong, remarkLong, SamePlate, Same-shape, Demands, Files}
+use Rattle.plates.proofs.Lists.{list-walked, list-accepted, list-demands}
+use Rattle.plates.proofs.Sound.{sound-exactly}
+use Rattle.plates.proofs.ReadsBack.{reads-back}
+use Rattle.plates.proofs.Verdicts.{same-counts, written-verdict}
+use Rattle.plates.proofs.FileBytes.{shape-bytes-fit}
+
+pub demands : Demands
+demands = record { sound-exactly = sound-exactly; all = list-demands; reads-back = reads-back }
+
+-- two lists with the same fields 02 to 05 have the same plate
+pub same-plate : (s t : List ℕ) → SamePlate s t → plateOf s ≡ plateOf t
+same-plate s t h =
+    let posts = ap (λ (c : List ℕ). getD c 0 0) (h .posts) in
+    let outer = ap (λ (c : List ℕ). getD c 0 0) (h .outer) in
+    λ i. plate (posts i) (h .ends i) (h .order i) (outer i)
+
+pub same-shape : Same-shape
+same-shape s t a r b q e h x m y n =
+    same-counts (plateOf s) a r b q x m
+    (subst (λ (p : Plate). Best p (shapeOf p b q)) (sym (same-plate s t h)) y)
+    (subst (λ (p : Plate). rightsOf (shapeOf p b q .words) ≡ q) (sym (same-plate s t h)) n)
+
+pub list-longest : (s : List ℕ) → listFault s ≡ 0 → length s ≤ 614
+list-longest s e = Longest.list-longest s (list-walked s e)
+
+pub file-long : (s : List ℕ) → listFault s ≡ 0 → fileLong s ≡ 16 + 4 * strips (plateOf s) + remarkLong (walkAll false s .fields)
+file-long s e = omega (arith, two-to-a-strip (plateOf s) (ordered (plateOf s) (list-accepted s e)))
+
+pub files : Files
+files =
+    record {
+      same-shape = same-shape;
+      written-verdict = written-verdict;
+      list-longest = list-longest;
+      file-long = file-long;
+      file-bytes = shape-bytes-fit;
+    }

@@ -1,0 +1,24 @@
+-- Laws that belong to no one function.
+pub mod Contents
+pub mod Lists
+pub mod Sound
+pub mod FrontField
+pub mod ShapeFile
+pub mod ReadsBack
+pub mod FileBytes
+pub mod Verdicts
+pub mod Demands
+pub mod HeldLists
+pub mod FileRows
+pub mod ListingText
+pub mod ListingRows
+pub mod ListingShort
+pub mod Decimals
+pub mod OneAnswer
+pub mod Shaping
+pub mod CheckLaws
+pub mod ShapeReads
+pub mod CheckSound
+pub mod ListingSaid
+pub mod P1
+pub mod Calls

@@ -1,0 +1,46 @@
+-- A shape file written into lent memory, from a list that passed the walk and given counts.
+use mathlib.Core.Path.{_≡_}
+use mathlib.Core.Bool.{false}
+use mathlib.Core.List.{List}
+use Prim.Native.Nat.{ℕ, _+_, _≤_, _<_}
+use lib.ListN.{length}
+use Rattle.fields.specs.declared.Fields.{Fields}
+use Rattle.plates.specs.declared.Shaped.{Shaped}
+use Rattle.plates.specs.Plates.{darts}
+use Rattle.plates.specs.Shapes.{total, rightsOf, shapeOf}
+use Rattle.plates.specs.Files.{walkAll, listFault, plateOf, fileBytes}
+use Rattle.plates.specs.Claims.{Best}
+use Rattle.plates.specs.Says.{over, remarkLong, fileLong}
+use Rattle.plates.specs.Read.{Walked}
+
+-- angles a and right bends r, one of each for each dart, n right bends in all, and room for the file
+pub record ToWrite (s : List ℕ) (f : Fields) (a r : List ℕ) (n room : ℕ) : Type 0 where
+  pub walked : Walked s f
+  pub angles-many : length a ≡ darts (plateOf s)
+  pub rights-many : length r ≡ darts (plateOf s)
+  pub sum : n ≡ total r
+  pub few : n < 65536
+  pub enough : fileLong s ≤ room
+
+-- the file stands at the front of the lent memory, of which the rest is untouched; n is its length
+pub record FileWritten (s a r out out′ : List ℕ) (n : ℕ) : Type 0 where
+  pub bytes : out′ ≡ over (fileBytes (walkAll false s .fields) a r) out
+  pub long : n ≡ fileLong s
+  pub size : n ≡ length (fileBytes (walkAll false s .fields) a r)
+
+-- room for the remark from a place on
+pub record RemarkRoom (s : List ℕ) (f : Fields) (at room : ℕ) : Type 0 where
+  pub walked : Walked s f
+  pub enough : at + remarkLong (walkAll false s .fields) ≤ room
+
+-- the counts of the best shape of an accepted list, n right bends in all
+pub record BestGiven (s : List ℕ) (f : Fields) (a r : List ℕ) (n : ℕ) : Type 0 where
+  pub walked : Walked s f
+  pub no-fault : listFault s ≡ 0
+  pub best : Best (plateOf s) (shapeOf (plateOf s) a r)
+  pub counts : rightsOf (shapeOf (plateOf s) a r .words) ≡ r
+  pub sum : n ≡ total r
+
+-- a refusal: its number alone
+abbrev pub refusedShape : ℕ → Shaped
+refusedShape e = record { number = e; long = 0; bends = 0 }

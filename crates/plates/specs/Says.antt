@@ -1,0 +1,124 @@
+-- What the public calls promise.
+use mathlib.Core.Path.{_≡_}
+use mathlib.Core.Logic.{_↔_}
+use mathlib.Core.Bool.{Bool, true, false, _&&_, not}
+use mathlib.Core.List.{List, [], _∷_, _++_}
+use Prim.Native.Nat.{ℕ, zero, suc, _+_, _*_, _≤_}
+use lib.Dec.{eqb, ltb}
+use lib.ListN.{length, drop}
+use Rattle.plates.specs.declared.Shaped as DS
+use Rattle.plates.specs.declared.Verdict as DV
+use Rattle.plates.specs.Plates.{pick, firstOf, when, darts, strips, faces}
+use Rattle.plates.specs.Shapes.{meets, anglesOk, postsOk, facesOk, bends, total, same, rightsOf, shapeOf}
+use Rattle.plates.specs.Files.{Field, hasTag, contentOf, walkAll, listFault, plateOf, shapeBytes}
+use Rattle.plates.specs.Claims as C
+pub use Rattle.fields.specs.Says.{word}
+
+abbrev pub over : List ℕ → List ℕ → List ℕ
+over xs ys = xs ++ drop (length xs) ys
+
+-- shaping: 1 to 15, 16; the file of the best shape, whose angles and right bends are named
+abbrev pub allBytes : List ℕ → Bool
+allBytes [] = true
+allBytes (b ∷ bs) = ltb b 256 && allBytes bs
+
+abbrev pub remarkLong : List Field → ℕ
+remarkLong fs = pick (hasTag 6 fs) (3 + length (contentOf 6 fs)) 0
+
+abbrev pub fileLong : List ℕ → ℕ
+fileLong s = let fs = walkAll false s .fields in 16 + (2 * darts (plateOf s) + remarkLong fs)
+
+abbrev pub shapeFault : List ℕ → List ℕ → ℕ
+shapeFault s o = firstOf (listFault s) (when (ltb (length o) (fileLong s)) 16)
+
+abbrev pub BestBytes : List ℕ → (List ℕ → List ℕ → List ℕ → Type 0) → Type 0
+BestBytes s f =
+    let p = plateOf s in
+    (a : List ℕ) × (r : List ℕ) × C.Best p (shapeOf p a r) × (rightsOf (shapeOf p a r .words) ≡ r) × f a r (shapeBytes (walkAll false s .fields) (shapeOf p a r))
+
+abbrev pub ShapeWith : ℕ → List ℕ → List ℕ → List ℕ → DS.Shaped → Type 0
+ShapeWith zero s o o′ r = (r .number ≡ 0) × BestBytes s (λ a x b. (r .long ≡ length b) × (r .bends ≡ total x) × (o′ ≡ over b o))
+ShapeWith (suc f) s o o′ r = (r .number ≡ suc f) × (r .long ≡ 0) × (r .bends ≡ 0) × (o′ ≡ o)
+
+abbrev pub ShapeSays : List ℕ → List ℕ → List ℕ → DS.Shaped → Type 0
+ShapeSays s o o′ r = ShapeWith (shapeFault s o) s o o′ r
+
+-- checking: the list's 1 to 15, the shape file's 1 to 6, 17, 18, then 19 to 22
+abbrev pub anglesIn : List ℕ → List ℕ
+anglesIn t = contentOf 19 (walkAll true t .fields)
+
+abbrev pub rightsIn : List ℕ → List ℕ
+rightsIn t = contentOf 20 (walkAll true t .fields)
+
+abbrev pub checkFault : List ℕ → List ℕ → ℕ
+checkFault s t =
+    let p = plateOf s in
+    let w = walkAll true t in
+    let a = anglesIn t in
+    let r = rightsIn t in
+    let ws = shapeOf p a r .words in
+    firstOf (listFault s)
+    (firstOf (w .number)
+    (firstOf (when (not (eqb (length a) (darts p) && eqb (length r) (darts p))) 17)
+    (firstOf (when (not (eqb (word (contentOf 1 (walkAll false s .fields))) (word (contentOf 17 (w .fields))))) 18)
+    (firstOf (when (not (anglesOk a)) 19)
+    (firstOf (when (not (postsOk (p .posts) 0 p a)) 20)
+    (firstOf (when (not (facesOk p a ws (faces p))) 21)
+    (when (not (eqb (word (contentOf 18 (w .fields))) (total r))) 22)))))))
+
+-- a sound verdict: the file's total, the plate's fewest, whether angles and right bends are those written
+abbrev pub CheckWith : ℕ → List ℕ → List ℕ → DV.Verdict → Type 0
+CheckWith zero s t r = (r .number ≡ 0) × (r .total ≡ total (rightsIn t)) × BestBytes s (λ a x b. (r .fewest ≡ total x) × (r .ours ≡ (same a (anglesIn t) && same x (rightsIn t))))
+CheckWith (suc f) s t r = (r .number ≡ suc f) × (r .total ≡ 0) × (r .fewest ≡ 0) × (r .ours ≡ false)
+
+abbrev pub CheckSays : List ℕ → List ℕ → DV.Verdict → Type 0
+CheckSays s t r = CheckWith (checkFault s t) s t r
+
+-- a written shape is sound for its list and reads back as the same angles and right bends
+abbrev pub Reads-back : Type 0
+Reads-back =
+    (s a r : List ℕ) → listFault s ≡ 0 → allBytes s ≡ true → C.Best (plateOf s) (shapeOf (plateOf s) a r) → rightsOf (shapeOf (plateOf s) a r .words) ≡ r
+    → let b = shapeBytes (walkAll false s .fields) (shapeOf (plateOf s) a r) in (checkFault s b ≡ 0) × (anglesIn b ≡ a) × (rightsIn b ≡ r) × (length b ≡ fileLong s)
+
+-- the check says sound exactly when the conditions hold for the file, and revision and total are true
+abbrev pub Sound-exactly : Type 0
+Sound-exactly =
+    (s t : List ℕ) → listFault s ≡ 0 → walkAll true t .number ≡ 0
+    → let p = plateOf s in let x = shapeOf p (anglesIn t) (rightsIn t) in let w = walkAll true t .fields in
+    (checkFault s t ≡ 0) ↔ ((length (rightsIn t) ≡ darts p) × (meets p x ≡ true) × (word (contentOf 17 w) ≡ word (contentOf 1 (walkAll false s .fields))) × (word (contentOf 18 w) ≡ bends x))
+
+pub record Demands : Type 0 where
+  pub sound-exactly : Sound-exactly
+  pub all : C.Demands
+  pub reads-back : Reads-back
+
+-- fields 02 to 05 of two lists are the same: they differ in revision and remark at most
+pub record SamePlate (s t : List ℕ) : Type 0 where
+  pub posts : contentOf 2 (walkAll false s .fields) ≡ contentOf 2 (walkAll false t .fields)
+  pub ends : contentOf 3 (walkAll false s .fields) ≡ contentOf 3 (walkAll false t .fields)
+  pub order : contentOf 4 (walkAll false s .fields) ≡ contentOf 4 (walkAll false t .fields)
+  pub outer : contentOf 5 (walkAll false s .fields) ≡ contentOf 5 (walkAll false t .fields)
+
+-- such lists give the same total, angles and right bends
+abbrev pub Same-shape : Type 0
+Same-shape =
+    (s t a r b q : List ℕ) → listFault s ≡ 0 → SamePlate s t
+    → C.Best (plateOf s) (shapeOf (plateOf s) a r) → rightsOf (shapeOf (plateOf s) a r .words) ≡ r
+    → C.Best (plateOf t) (shapeOf (plateOf t) b q) → rightsOf (shapeOf (plateOf t) b q .words) ≡ q
+    → (total r ≡ total q) × (a ≡ b) × (r ≡ q)
+
+-- the verdict on a written shape: sound, its total the fewest, and ours
+abbrev pub Written-verdict : Type 0
+Written-verdict =
+    (s a r : List ℕ) (v : DV.Verdict) → listFault s ≡ 0 → C.Best (plateOf s) (shapeOf (plateOf s) a r) → rightsOf (shapeOf (plateOf s) a r .words) ≡ r
+    → CheckSays s (shapeBytes (walkAll false s .fields) (shapeOf (plateOf s) a r)) v
+    → (v .number ≡ 0) × (v .total ≡ total r) × (v .fewest ≡ total r) × (v .ours ≡ true)
+
+-- the rest of the paper's sentences on files
+pub record Files : Type 0 where
+  pub same-shape : Same-shape
+  pub written-verdict : Written-verdict
+  pub list-longest : (s : List ℕ) → listFault s ≡ 0 → length s ≤ 614
+  pub file-long : (s : List ℕ) → listFault s ≡ 0 → fileLong s ≡ 16 + 4 * strips (plateOf s) + remarkLong (walkAll false s .fields)
+  pub file-bytes : (s a r : List ℕ) → listFault s ≡ 0 → allBytes s ≡ true → C.Best (plateOf s) (shapeOf (plateOf s) a r) → rightsOf (shapeOf (plateOf s) a r .words) ≡ r
+      → allBytes (shapeBytes (walkAll false s .fields) (shapeOf (plateOf s) a r)) ≡ true

@@ -1,0 +1,138 @@
+//! From plate list to the shape with fewest bends: shaping, checking, listing.
+ghost use mathlib.Core.Path.{_≡_};
+ghost use mathlib.Core.Bool.{true};
+ghost use mathlib.Core.List.{List};
+ghost use Prim.Native.Nat.{ℕ};
+ghost use lib.ListN.{length};
+ghost use Rattle.embedding.specs.Read.{Stands};
+ghost use Rattle.shapes.specs.Claims.{Accepted, Standing};
+ghost use Rattle.plates.specs.Files.{listFault, plateOf};
+ghost use Rattle.plates.specs.Says.{ShapeSays, CheckSays};
+ghost use Rattle.plates.specs.Read.{ShapeHeld, shapeFileFault, Readable};
+ghost use Rattle.plates.specs.Listing.{ListingSays};
+use crate::checking::check_read;
+use crate::checking::refused_verdict;
+use crate::encoding::refused_shape;
+use crate::encoding::write_best;
+use crate::listing::list_best;
+use crate::listing::list_refused;
+use crate::reading::read_list;
+use crate::reading::read_shape;
+use embedding::Plate;
+use fields::Fields;
+use fields::content;
+use shapes::best::best;
+use shapes::judge::judge;
+
+mod checking;
+mod encoding;
+mod listing;
+mod reading;
+
+// A shape written: its refusal alone, or 0 with its length and its total bends.
+pub struct Shaped {
+    pub number: u8,
+    pub long: u32,
+    pub bends: u32,
+}
+
+// Ours: angles and right bends are those that shaping writes.
+pub struct Verdict {
+    pub number: u8,
+    pub total: u32,
+    pub fewest: u32,
+    pub ours: bool,
+}
+
+// A listing given: 0 with its length, or 16 where the lent memory is shorter than it.
+pub struct Listed {
+    pub number: u8,
+    pub long: usize,
+}
+
+// Writes the best shape of a plate list to the front of lent memory, or refuses with 1 to 16 and changes nothing.
+pub fn write_shape(list: &[u8], out: &mut [u8]) -> Shaped
+    ensures { λ r. ⌜ ShapeSays (now (list .entry)) (now (out .entry)) (now (out .exit)) r ⌝ }
+{
+    let read = read_list(list);
+    if read.number != 0 {
+        return refused_shape(read.number);
+    }
+    let plate = read.plate;
+    let fields = read.fields;
+    let shape = best(plate);
+    let darts = plate.darts;
+    let angles = shape.angles;
+    let rights = shape.rights;
+    write_best(
+        list,
+        fields,
+        &angles[..darts],
+        &rights[..darts],
+        shape.total,
+        out,
+    )
+}
+
+// The verdict on a shape file that has an angle and right bends for each dart of the plate: 19 to 22, or sound.
+fn check_counts(plate: Plate, shape: &[u8], g: Fields) -> Verdict
+    requires { ⌜ Readable plate (now shape) g ⌝ }
+    ensures { λ r. ⌜ ((s : List ℕ) → listFault s ≡ 0 → shapeFileFault s (now (shape .entry)) ≡ 0 → Stands plate (plateOf s) → Accepted (plateOf s) → CheckSays s (now (shape .entry)) r) ⌝ }
+{
+    let their_angles = content(shape, g, 2);
+    let their_rights = content(shape, g, 3);
+    let judged = judge(plate, their_angles, their_rights);
+    let ours = best(plate);
+    let darts = plate.darts;
+    let angles = ours.angles;
+    let rights = ours.rights;
+    check_read(
+        shape,
+        g,
+        judged,
+        &angles[..darts],
+        &rights[..darts],
+        ours.total,
+    )
+}
+
+// The verdict on a shape file against a plate list.
+pub fn check_shape(list: &[u8], shape: &[u8]) -> Verdict
+    ensures { λ r. ⌜ CheckSays (now (list .entry)) (now (shape .entry)) r ⌝ }
+{
+    let read = read_list(list);
+    if read.number != 0 {
+        return refused_verdict(read.number);
+    }
+    let fields = read.fields;
+    let g = read_shape(list, fields, shape);
+    if g.number != 0 {
+        return refused_verdict(g.number);
+    }
+    let plate = read.plate;
+    check_counts(plate, shape, g)
+}
+
+// Writes the listing of a plate list to the front of lent memory, or refuses with 16 and changes nothing.
+pub fn write_listing(list: &[u8], out: &mut [u8]) -> Listed
+    ensures { λ r. ⌜ ListingSays (now (list .entry)) (now (out .entry)) (now (out .exit)) r ⌝ }
+{
+    let read = read_list(list);
+    if read.number != 0 {
+        return list_refused(read.number, out);
+    }
+    let plate = read.plate;
+    let fields = read.fields;
+    let shape = best(plate);
+    let darts = plate.darts;
+    let angles = shape.angles;
+    let rights = shape.rights;
+    list_best(
+        list,
+        fields,
+        &angles[..darts],
+        &rights[..darts],
+        shape.total,
+        out,
+    )
+}
