@@ -43,8 +43,8 @@ fn write_remark(list: &[u8], f: Fields, out: &mut [u8], at: usize) -> usize
     requires { ⌜ RemarkRoom (now list) f at (length (now out)) ⌝ }
     ensures { λ r. ⌜ Written at (remarkPart (walkAll false (now (list .entry)) .fields)) (now (out .entry)) (now (out .exit)) r ⌝ }
 {
-    let is_there = f.seen[5];
-    if is_there {
+    let is_copied = f.seen[5];
+    if is_copied {
         let remark = content(list, f, 5);
         write_field(out, at, 0x15, remark)
     } else {

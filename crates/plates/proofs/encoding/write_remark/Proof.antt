@@ -6,8 +6,8 @@ use borrow.Author.Needs.{needs}
 use Rattle.plates.proofs.encoding.write_remark.Statement.{statement}
 use Rattle.plates.proofs.encoding.write_remark.Tie as tie
 
-element-copy-out-is-there : tie.Need-element-copy-out-is-there
-element-copy-out-is-there c = search needs
+element-copy-out-is-copied : tie.Need-element-copy-out-is-copied
+element-copy-out-is-copied c = search needs
 
 content-requires : tie.Need-content-requires
 content-requires c κs = (omega arith, walked-within (c .before .before .before .before .pre .walked))
@@ -31,7 +31,7 @@ pub write-remark-spec : {M : Type 1} → statement M
 write-remark-spec =
     tie.close
     (tie.spec
-    element-copy-out-is-there
+    element-copy-out-is-copied
     content-requires
     write-field-requires
     same-length
