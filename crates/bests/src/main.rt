@@ -75,6 +75,9 @@ fn shapes_to_try() {
         1,
     );
     show(b"P4", 2, b"\x00\x01", b"\x00\x01", 0);
+}
+
+fn more_shapes_to_try() {
     show(
         b"P5",
         5,
@@ -125,6 +128,9 @@ fn verdicts() {
         b"\x05\x03\x03\x01",
         b"\x00\x00\x00\x02",
     );
+}
+
+fn verdicts_on_sums() {
     // 20 comes before 21: the angles at post 1 add to 5.
     verdict(
         b"P1, angles at a post",
@@ -143,5 +149,7 @@ fn verdicts() {
 
 fn main() {
     shapes_to_try();
+    more_shapes_to_try();
     verdicts();
+    verdicts_on_sums();
 }

@@ -33,7 +33,7 @@ fn show(label: &[u8], posts: u8, ends: &[u8], order: &[u8], outer: u8)
     }
 }
 
-// Document 01's P1 to P8.
+// Document 01's P1 to P4.
 fn plates_to_try() {
     show(b"P1", 2, b"\x00\x01\x00\x01", b"\x00\x02\x01\x03", 1);
     show(
@@ -51,6 +51,10 @@ fn plates_to_try() {
         1,
     );
     show(b"P4", 2, b"\x00\x01", b"\x00\x01", 0);
+}
+
+// Document 01's P5 to P8.
+fn more_plates_to_try() {
     show(
         b"P5",
         5,
@@ -75,7 +79,7 @@ fn plates_to_try() {
     );
 }
 
-// Refusals 7 to 11: P10's cases, and each against the next.
+// Refusals 7 to 10: P10's 65 and 64 posts, and each against the next.
 fn posts_and_strips() {
     show(b"no post", 0, b"\x00\x01", b"\x00\x01", 0);
     show(b"65 posts", 65, b"\x00\x01", b"\x00\x01", 0);
@@ -89,6 +93,10 @@ fn posts_and_strips() {
         b"\x00\x01\x02\x03",
         0,
     );
+}
+
+// Refusal 11: P10's fifth strip at a post, and a fourth.
+fn strips_at_a_post() {
     show(
         b"a strip to itself",
         2,
@@ -119,8 +127,8 @@ fn posts_and_strips() {
     );
 }
 
-// Refusals 12 to 15, each against the next.
-fn order_and_whole() {
+// Refusal 12 before 13.
+fn orders() {
     show(
         b"order too short",
         2,
@@ -149,6 +157,10 @@ fn order_and_whole() {
         b"\x00\x04\x01\x03",
         9,
     );
+}
+
+// Refusals 13 to 15, each against the next.
+fn whole_plates() {
     show(
         b"outer dart too high",
         4,
@@ -175,6 +187,9 @@ fn order_and_whole() {
 
 fn main() {
     plates_to_try();
+    more_plates_to_try();
     posts_and_strips();
-    order_and_whole();
+    strips_at_a_post();
+    orders();
+    whole_plates();
 }
