@@ -68,6 +68,19 @@ pub record Stands (q : Held) (p : Plate) : Type 0 where
   pub face-count : q .faces ≡ length (faces p)
   pub face-sizes : Table 66 (upTo (length (faces p)) (faceSize p)) (q .sizes)
 
+-- a plate as held, put together from its parts
+pub record Assembled (n : ℕ) (e places degrees : List ℕ) (outer : ℕ) (next : List ℕ) (l : Labelled) (q : Held) : Type 0 where
+  pub same-posts : q .posts ≡ n
+  pub dart-count : q .darts ≡ length e
+  pub strip-ends : Table 256 (λ i. getD e i 0) (q .ends)
+  pub four-places : q .places ≡ places
+  pub post-degrees : q .degrees ≡ degrees
+  pub outer-dart : q .outer ≡ outer
+  pub next-darts : q .next ≡ next
+  pub face-numbers : q .face ≡ l .face
+  pub face-count : q .faces ≡ l .faces
+  pub face-sizes : Table 66 (λ i. getD (l .sizes) i 0) (q .sizes)
+
 -- refusals 7 to 10, of n posts and the strip ends e
 abbrev pub earlyFault : ℕ → List ℕ → ℕ
 earlyFault n e = firstOf (when (eqb n 0 || ltb 64 n) 7) (firstOf (when (eqb (length e) 0) 8) (firstOf (when (not (allBelow n e)) 9) (when (someLoop e) 10)))

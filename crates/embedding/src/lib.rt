@@ -8,7 +8,7 @@ ghost use Rattle.finite.specs.Tables.{Table, upTo};
 ghost use Rattle.finite.specs.Walks.{OneToOne};
 ghost use Rattle.embedding.specs.Plates.{Plate as PlateOf, reach, isIn, degreeFrom, twin, lastOf, justBefore, allBelow, someLoop, distinct, allLeave, plate};
 ghost use Rattle.embedding.specs.Steps.{Few, Counts, PostRead, OrderRead, afterIn, Joined, RoundMade, nextOf, FaceLabelled};
-ghost use Rattle.embedding.specs.Read.{Follows, Fitting, OneLabelled, FacesLabelled, earlyFault, refusal, Reads};
+ghost use Rattle.embedding.specs.Read.{Follows, Fitting, OneLabelled, FacesLabelled, earlyFault, refusal, Assembled, Reads};
 
 // A plate without fault. The j-th dart of post v, clockwise, stands at 4 v + j of `places`; faces are numbered by their lowest darts.
 pub struct Plate {
@@ -515,6 +515,37 @@ fn early_fault(posts: usize, ends: &[u8]) -> u8
     0
 }
 
+// The parts of a plate put together.
+fn hold(
+    posts: usize,
+    ends: &[u8],
+    places: [u8; 256],
+    degrees: [u8; 64],
+    outer: u8,
+    next: [u8; 256],
+    labelled: Labelled,
+) -> Plate
+    requires { do ⌜ (← ⟦ends.len()⟧) ≤ 256 ⌝ }
+    ensures { λ r. ⌜ Assembled posts (now (ends .entry)) places degrees outer next labelled r ⌝ }
+{
+    let face = labelled.face;
+    let all_sizes = labelled.sizes;
+    let sizes = first_sizes(all_sizes);
+    let all_ends = copy_ends(ends);
+    Plate {
+        posts,
+        darts: ends.len(),
+        ends: all_ends,
+        places,
+        degrees,
+        outer,
+        next,
+        face,
+        faces: labelled.faces,
+        sizes,
+    }
+}
+
 // Refusals 11 to 15, or the plate.
 fn read_rest(posts: usize, ends: &[u8], order: &[u8], outer: u8) -> Reading
     requires { do ⌜ ((← ⟦ends.len()⟧) ≤ 256) × ((← ⟦ends.len()⟧) % 2 ≡ 0) × (earlyFault posts (now ends) ≡ 0) ⌝ }
@@ -545,25 +576,8 @@ fn read_rest(posts: usize, ends: &[u8], order: &[u8], outer: u8) -> Reading
     if posts + faces != ends.len() / 2 + 2 {
         return refuse(15);
     }
-    let face = labelled.face;
-    let all_sizes = labelled.sizes;
-    let sizes = first_sizes(all_sizes);
-    let all_ends = copy_ends(ends);
-    Reading {
-        number: 0,
-        plate: Plate {
-            posts,
-            darts: ends.len(),
-            ends: all_ends,
-            places,
-            degrees,
-            outer,
-            next,
-            face,
-            faces,
-            sizes,
-        },
-    }
+    let plate = hold(posts, ends, places, degrees, outer, next, labelled);
+    Reading { number: 0, plate }
 }
 
 // The plate of `posts` posts whose strips have these ends, whose posts have these darts in clockwise order, and whose outer face holds dart `outer`.

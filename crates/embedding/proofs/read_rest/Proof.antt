@@ -176,29 +176,27 @@ returns-6 c =
     let n = start5 d .args .posts in
     rw (c .refuse6 .ensures) (refused-15 (past-order (three d)) (inner (d .before .before)) (joined d) (λ q. c .before .if6 .taken (ap (λ (k : ℕ). n + k) (labels l .count) ∙ q)))
 
-first-sizes-requires : tie.Need-first-sizes-requires
-first-sizes-requires c κs = search needs
-
-copy-ends-requires : tie.Need-copy-ends-requires
-copy-ends-requires c κs = start5 (five (c .before .before .before .before .before .before)) .pre .0
+hold-requires : tie.Need-hold-requires
+hold-requires c κs = start5 (five (c .before .before .before)) .pre .0
 
 returns-7 : tie.Need-returns-7
 returns-7 c =
-    let l = c .before .before .before .before .before in
+    let l = c .before .before in
     let d = five (l .before .before) in
     let n = start5 d .args .posts in
-    plate-read (past-order (three d)) (inner (d .before .before)) (joined d) (ap (λ (k : ℕ). n + k) (sym (labels l .count)) ∙ c .before .before .before .before .if6 .left)
+    let q = c .hold .ensures in
+    plate-read (past-order (three d)) (inner (d .before .before)) (joined d) (ap (λ (k : ℕ). n + k) (sym (labels l .count)) ∙ c .before .if6 .left)
     (record {
-      same-posts = refl;
-      dart-count = refl;
-      strip-ends = c .copy-ends .ensures;
-      four-places = places (three d);
-      post-degrees = few (one (three d)) .table;
-      outer-dart = refl;
-      next-darts = follows (l .before .before) .table;
-      face-numbers = labels l .face;
-      face-count = labels l .count;
-      face-sizes = sizes-first (whole (start5 d)) (labels l .sizes) (c .before .first-sizes .ensures);
+      same-posts = q .same-posts;
+      dart-count = q .dart-count;
+      strip-ends = q .strip-ends;
+      four-places = rw (q .four-places) (places (three d));
+      post-degrees = rw (q .post-degrees) (few (one (three d)) .table);
+      outer-dart = q .outer-dart;
+      next-darts = rw (q .next-darts) (follows (l .before .before) .table);
+      face-numbers = rw (q .face-numbers) (labels l .face);
+      face-count = q .face-count ∙ labels l .count;
+      face-sizes = sizes-first (whole (start5 d)) (labels l .sizes) (q .face-sizes);
     })
 
 pub read-rest-spec : {M : Type 1} → statement M
@@ -226,6 +224,5 @@ read-rest-spec =
     add-if6-2
     refuse-requires-6
     returns-6
-    first-sizes-requires
-    copy-ends-requires
+    hold-requires
     returns-7)
