@@ -8,3 +8,4 @@ pub mod Read
 pub mod Encodes
 pub mod Checks
 pub mod Listing
+pub mod Answers

@@ -26,6 +26,7 @@ use shapes::judge::judge;
 
 mod checking;
 mod encoding;
+pub mod exports;
 mod listing;
 mod reading;
 

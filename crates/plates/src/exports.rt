@@ -1,0 +1,51 @@
+//! The library for C and Rust: what a struct answers is a number returned and numbers behind references.
+ghost use Rattle.plates.specs.Says.{ShapeSays, CheckSays};
+ghost use Rattle.plates.specs.Listing.{ListingSays};
+ghost use Rattle.plates.specs.Answers.{shaped, verdict, listed};
+use crate::check_shape;
+use crate::write_listing;
+use crate::write_shape;
+
+// Shaping: the refusal's number, or 0 with the shape at the front of `out`, its length and its bends.
+#[no_mangle]
+pub extern "C" fn plates_write_shape(
+    list: &[u8],
+    out: &mut [u8],
+    long: &mut u32,
+    bends: &mut u32,
+) -> u8
+    ensures { λ r. ⌜ ShapeSays (now (list .entry)) (now (out .entry)) (now (out .exit)) (shaped r (now (long .exit)) (now (bends .exit))) ⌝ }
+{
+    let s = write_shape(list, out);
+    *long = s.long;
+    *bends = s.bends;
+    s.number
+}
+
+// Checking: the refusal's number, or 0 with the file's total, the plate's fewest, and whether the shape is the one written.
+#[no_mangle]
+pub extern "C" fn plates_check_shape(
+    list: &[u8],
+    shape: &[u8],
+    total: &mut u32,
+    fewest: &mut u32,
+    ours: &mut bool,
+) -> u8
+    ensures { λ r. ⌜ CheckSays (now (list .entry)) (now (shape .entry)) (verdict r (now (total .exit)) (now (fewest .exit)) (now (ours .exit))) ⌝ }
+{
+    let v = check_shape(list, shape);
+    *total = v.total;
+    *fewest = v.fewest;
+    *ours = v.ours;
+    v.number
+}
+
+// Listing: 0 with the text at the front of `out` and its length, or 16 where `out` is too short for it.
+#[no_mangle]
+pub extern "C" fn plates_write_listing(list: &[u8], out: &mut [u8], long: &mut usize) -> u8
+    ensures { λ r. ⌜ ListingSays (now (list .entry)) (now (out .entry)) (now (out .exit)) (listed r (now (long .exit))) ⌝ }
+{
+    let l = write_listing(list, out);
+    *long = l.long;
+    l.number
+}
