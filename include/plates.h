@@ -1,0 +1,105 @@
+/* Strip plates: from a plate list to the shape with fewest bends.
+ *
+ * Link with libplates.a (x86-64 Linux); it needs the C library only.
+ *
+ * Every function returns 0 for success or the number of its refusal, and no
+ * function has a precondition on the bytes that it is given. The memory lent
+ * for writing and the numbers behind pointers must not overlap each other or
+ * the bytes that are read. A pointer may not be null, not even with length 0.
+ * No function keeps a pointer, allocates memory or uses global state.
+ */
+#ifndef PLATES_H
+#define PLATES_H
+
+#include <stddef.h>
+#include <stdint.h>
+#ifndef __cplusplus
+#include <stdbool.h>
+#endif
+
+#ifdef __cplusplus
+extern "C" {
+#endif
+
+/* Refusals, in the order in which they are tried. "File" is the plate list
+ * or, for plates_check_shape, the plate list first and then the shape. */
+enum plates_refusal {
+    PLATES_ACCEPTED = 0,
+
+    /* field walk: all five at one field before the next field */
+    PLATES_FIELD_CUT = 1,          /* one or two bytes remain */
+    PLATES_UNKNOWN_TAG = 2,        /* tag not of this file */
+    PLATES_REPEATED_TAG = 3,       /* tag met before */
+    PLATES_FIELD_LENGTH = 4,       /* length not as laid out */
+    PLATES_CONTENT_CUT = 5,        /* content passes the end */
+    PLATES_FIELD_ABSENT = 6,       /* a field other than the remark is absent */
+
+    /* plate list */
+    PLATES_POST_COUNT = 7,         /* no post, or over 64 */
+    PLATES_NO_STRIPS = 8,          /* no strip */
+    PLATES_END_NOT_A_POST = 9,     /* some strip's end is not a post */
+    PLATES_STRIP_TO_ITSELF = 10,   /* some strip joins a post to itself */
+    PLATES_OVER_FOUR_STRIPS = 11,  /* some post has over four strips */
+    PLATES_CLOCKWISE_ORDER = 12,   /* not exactly each post's leaving darts, each once */
+    PLATES_OUTER_DART = 13,        /* outer dart is not a dart */
+    PLATES_NOT_CONNECTED = 14,     /* not in one piece */
+    PLATES_NOT_PLANE = 15,         /* connected, not plane */
+
+    /* writing */
+    PLATES_MEMORY_SHORT = 16,      /* lent memory shorter than the result */
+
+    /* shape file */
+    PLATES_SHAPE_LENGTH = 17,      /* angles or right bends are not one per dart */
+    PLATES_REVISION_DIFFERS = 18,  /* revision is not the plate list's */
+    PLATES_ANGLE_RANGE = 19,       /* an angle outside 1 to 4 */
+    PLATES_ANGLES_AT_POST = 20,    /* angles at some post do not add to 4 */
+    PLATES_TURNS_OF_FACE = 21,     /* turns of some face do not add to +4, outer -4 */
+    PLATES_TOTAL_DIFFERS = 22      /* total is not the sum of the right bends */
+};
+
+/* Writes the best shape of a plate list to the front of `out`.
+ *
+ * 0: the first *long_ bytes of `out` are the shape file and the bytes behind
+ * them are as before; *bends is its total bends. The shape meets H1 to H4,
+ * and it comes first among all shapes of the plate: fewest bends, then the
+ * smaller right bends of darts 0, 1, 2 and so on, then the smaller angles.
+ * *long_ is 16 + 4 * strips, plus 3 and the remark's length if there is one;
+ * 611 bytes are always enough.
+ *
+ * 1 to 15: the plate list is refused. 16: out_len is less than the length of
+ * the shape. On a refusal `out` is unchanged; *long_ and *bends are 0. */
+uint8_t plates_write_shape(const uint8_t *list, size_t list_len,
+                           uint8_t *out, size_t out_len,
+                           uint32_t *long_, uint32_t *bends);
+
+/* Gives a verdict on a shape file against a plate list.
+ *
+ * 0: the shape meets H1 to H4. *total is its total bends, *fewest the least
+ * total bends of all shapes of the plate, and *ours says whether its angles
+ * and right bends are those that plates_write_shape writes.
+ *
+ * 1 to 15: the plate list is refused. 1 to 6 also: the shape file is refused,
+ * after the plate list was accepted. 17 to 22: as in the table. Never 16.
+ * On a refusal *total and *fewest are 0 and *ours is false. */
+uint8_t plates_check_shape(const uint8_t *list, size_t list_len,
+                           const uint8_t *shape, size_t shape_len,
+                           uint32_t *total, uint32_t *fewest, bool *ours);
+
+/* Writes the listing of a plate list, as text, to the front of `out`.
+ *
+ * 0: the first *long_ bytes of `out` are the text and the bytes behind them
+ * are as before. For an accepted list the text has the lines "revision R",
+ * "bends B" and, for each dart, "dart D right R angle A"; for a list refused
+ * with N (1 to 15) it has the one line "refused N". Each line ends with a
+ * line feed, and there is no null byte.
+ *
+ * 16: out_len is less than the length of the text; `out` is unchanged and
+ * *long_ is 0. No other number is returned. */
+uint8_t plates_write_listing(const uint8_t *list, size_t list_len,
+                             uint8_t *out, size_t out_len, size_t *long_);
+
+#ifdef __cplusplus
+}
+#endif
+
+#endif

@@ -1,0 +1,385 @@
+//! Strip plates: from a plate list to the shape with fewest bends.
+//!
+//! A safe wrapper round the three functions of the verified library. A plate
+//! list is bytes in fields: one-byte tag, two-byte length (high byte first),
+//! content. [`write_shape`] writes the best shape of a plate list,
+//! [`check_shape`] gives a verdict on a shape file, and [`write_listing`]
+//! writes the best shape as text.
+//!
+//! ```
+//! // Two posts joined by two strips.
+//! let list = [
+//!     0x01, 0, 2, 0, 7, // revision 7
+//!     0x02, 0, 1, 2, // two posts
+//!     0x03, 0, 4, 0, 1, 0, 1, // two strips, both from post 0 to post 1
+//!     0x04, 0, 4, 0, 2, 1, 3, // clockwise darts of post 0, then of post 1
+//!     0x05, 0, 1, 1, // outer dart 1
+//! ];
+//! let mut out = [0; plates::LONGEST_SHAPE];
+//! let shape = plates::write_shape(&list, &mut out)?;
+//! assert_eq!(shape.bends, 2);
+//! assert_eq!(
+//!     out[..shape.length],
+//!     [
+//!         0x11, 0, 2, 0, 7, // revision 7
+//!         0x12, 0, 2, 0, 2, // two bends
+//!         0x13, 0, 4, 1, 3, 3, 1, // angles of darts 0 to 3
+//!         0x14, 0, 4, 0, 0, 0, 2, // right bends of darts 0 to 3
+//!     ]
+//! );
+//!
+//! let verdict = plates::check_shape(&list, &out[..shape.length])?;
+//! assert_eq!((verdict.total, verdict.fewest, verdict.ours), (2, 2, true));
+//! # Ok::<(), plates::Refusal>(())
+//! ```
+
+#![warn(missing_docs)]
+
+use std::error::Error;
+use std::fmt;
+
+/// Lent memory of this length is enough for the shape of every plate list:
+/// 16 bytes, 4 for each of 128 strips, and a remark of 80 bytes with its 3.
+pub const LONGEST_SHAPE: usize = 16 + 4 * 128 + 3 + 80;
+
+/// A shape that was written.
+#[derive(Clone, Copy, Debug, PartialEq, Eq)]
+pub struct Shape {
+    /// Its length in bytes, from the front of the lent memory.
+    pub length: usize,
+    /// Its total bends.
+    pub bends: u32,
+}
+
+/// The verdict on a shape that meets the conditions.
+#[derive(Clone, Copy, Debug, PartialEq, Eq)]
+pub struct Verdict {
+    /// The shape file's total bends.
+    pub total: u32,
+    /// The least total bends of all shapes of the plate.
+    pub fewest: u32,
+    /// Whether angles and right bends are those that [`write_shape`] writes.
+    pub ours: bool,
+}
+
+/// Writes the best shape of a plate list to the front of `out`.
+///
+/// The best shape has the fewest bends; among equal totals it has the smaller
+/// right bends of darts 0, 1, 2 and so on, then the smaller angles. Its length
+/// is 16 + 4 · strips, plus 3 and the remark's length where there is a remark.
+/// The bytes of `out` behind the shape stay as they are.
+///
+/// # Errors
+/// Refusals 1 to 15 for the plate list, and [`Refusal::MemoryShort`] where
+/// `out` is shorter than the shape. On a refusal `out` is unchanged.
+///
+/// ```
+/// use plates::{write_shape, Refusal};
+///
+/// let list = [
+///     0x01, 0, 2, 0, 7, 0x02, 0, 1, 2, 0x03, 0, 4, 0, 1, 0, 1, //
+///     0x04, 0, 4, 0, 2, 1, 3, 0x05, 0, 1, 1,
+/// ];
+/// let mut out = [0xee; 30];
+/// assert_eq!(write_shape(&list, &mut out[..23]), Err(Refusal::MemoryShort));
+/// assert_eq!(out, [0xee; 30]);
+/// assert_eq!(write_shape(&list, &mut out).unwrap().length, 24);
+/// assert_eq!(out[24..], [0xee; 6]);
+/// ```
+pub fn write_shape(list: &[u8], out: &mut [u8]) -> Result<Shape, Refusal> {
+    let mut length = 0;
+    let mut bends = 0;
+    // SAFETY: each pointer comes from a reference or a slice, with the slice's
+    // own length, and `out` and the two numbers overlap nothing.
+    let number = unsafe {
+        calls::plates_write_shape(
+            list.as_ptr(),
+            list.len(),
+            out.as_mut_ptr(),
+            out.len(),
+            &mut length,
+            &mut bends,
+        )
+    };
+    let length = length as usize;
+    accepted(number).map(|()| Shape { length, bends })
+}
+
+/// Gives a verdict on a shape file against a plate list.
+///
+/// # Errors
+/// Refusals 1 to 15 for the plate list; then 1 to 6 and 17 to 22 for the shape
+/// file. Never 16.
+///
+/// ```
+/// use plates::{check_shape, Refusal, Verdict};
+///
+/// let list = [
+///     0x01, 0, 2, 0, 7, 0x02, 0, 1, 2, 0x03, 0, 4, 0, 1, 0, 1, //
+///     0x04, 0, 4, 0, 2, 1, 3, 0x05, 0, 1, 1,
+/// ];
+/// let mut shape = [
+///     0x11, 0, 2, 0, 7, 0x12, 0, 2, 0, 2, //
+///     0x13, 0, 4, 1, 3, 3, 1, 0x14, 0, 4, 0, 0, 0, 2,
+/// ];
+/// let sound = Verdict { total: 2, fewest: 2, ours: true };
+/// assert_eq!(check_shape(&list, &shape), Ok(sound));
+/// shape[9] = 3;
+/// assert_eq!(check_shape(&list, &shape), Err(Refusal::TotalDiffers));
+/// ```
+pub fn check_shape(list: &[u8], shape: &[u8]) -> Result<Verdict, Refusal> {
+    let mut total = 0;
+    let mut fewest = 0;
+    let mut ours = false;
+    // SAFETY: each pointer comes from a reference or a slice, with the slice's
+    // own length, and the three results overlap nothing.
+    let number = unsafe {
+        calls::plates_check_shape(
+            list.as_ptr(),
+            list.len(),
+            shape.as_ptr(),
+            shape.len(),
+            &mut total,
+            &mut fewest,
+            &mut ours,
+        )
+    };
+    accepted(number).map(|()| Verdict {
+        total,
+        fewest,
+        ours,
+    })
+}
+
+/// Writes the listing of a plate list, as text, to the front of `out`, and
+/// gives its length.
+///
+/// The text of an accepted list is its revision, the total bends and a line
+/// for each dart; that of a list refused with N is "refused N". The bytes of
+/// `out` behind the text stay as they are.
+///
+/// # Errors
+/// Only [`Refusal::MemoryShort`], where `out` is shorter than the text; `out`
+/// is then unchanged.
+///
+/// ```
+/// let list = [
+///     0x01, 0, 2, 0, 7, 0x02, 0, 1, 2, 0x03, 0, 4, 0, 1, 0, 1, //
+///     0x04, 0, 4, 0, 2, 1, 3, 0x05, 0, 1, 1,
+/// ];
+/// let mut out = [0; 200];
+/// let length = plates::write_listing(&list, &mut out)?;
+/// assert_eq!(
+///     std::str::from_utf8(&out[..length]).unwrap(),
+///     "revision 7\n\
+///      bends 2\n\
+///      dart 0 right 0 angle 1\n\
+///      dart 1 right 0 angle 3\n\
+///      dart 2 right 0 angle 3\n\
+///      dart 3 right 2 angle 1\n"
+/// );
+/// let length = plates::write_listing(&[], &mut out)?;
+/// assert_eq!(out[..length], *b"refused 6\n");
+/// # Ok::<(), plates::Refusal>(())
+/// ```
+pub fn write_listing(list: &[u8], out: &mut [u8]) -> Result<usize, Refusal> {
+    let mut length = 0;
+    // SAFETY: each pointer comes from a reference or a slice, with the slice's
+    // own length, and `out` and the length overlap nothing.
+    let number = unsafe {
+        calls::plates_write_listing(
+            list.as_ptr(),
+            list.len(),
+            out.as_mut_ptr(),
+            out.len(),
+            &mut length,
+        )
+    };
+    accepted(number).map(|()| length)
+}
+
+/// The library returns 0 or a refusal's number, and no other.
+fn accepted(number: u8) -> Result<(), Refusal> {
+    match number {
+        0 => Ok(()),
+        _ => Err(Refusal::from_number(number).expect("the library returns 0 to 22")),
+    }
+}
+
+/// The functions of the archive, as in `include/plates.h`.
+mod calls {
+    extern "C" {
+        pub fn plates_write_shape(
+            list: *const u8,
+            list_len: usize,
+            out: *mut u8,
+            out_len: usize,
+            long: &mut u32,
+            bends: &mut u32,
+        ) -> u8;
+        pub fn plates_check_shape(
+            list: *const u8,
+            list_len: usize,
+            shape: *const u8,
+            shape_len: usize,
+            total: &mut u32,
+            fewest: &mut u32,
+            ours: &mut bool,
+        ) -> u8;
+        pub fn plates_write_listing(
+            list: *const u8,
+            list_len: usize,
+            out: *mut u8,
+            out_len: usize,
+            long: &mut usize,
+        ) -> u8;
+    }
+}
+
+/// Why a plate list, a shape file or lent memory was refused.
+#[derive(Clone, Copy, Debug, PartialEq, Eq, Hash)]
+#[repr(u8)]
+pub enum Refusal {
+    /// One or two bytes remain where a field should begin.
+    FieldCut = 1,
+    /// A tag that is not of this file.
+    UnknownTag = 2,
+    /// A tag met before.
+    RepeatedTag = 3,
+    /// A field's length is not as laid out.
+    FieldLength = 4,
+    /// A field's content passes the end.
+    ContentCut = 5,
+    /// A field other than the remark is absent.
+    FieldAbsent = 6,
+    /// No post, or over 64.
+    PostCount = 7,
+    /// No strip.
+    NoStrips = 8,
+    /// Some strip's end is not a post.
+    EndNotAPost = 9,
+    /// Some strip joins a post to itself.
+    StripToItself = 10,
+    /// Some post has over four strips.
+    OverFourStrips = 11,
+    /// The clockwise order is not each post's leaving darts, each once.
+    ClockwiseOrder = 12,
+    /// The outer dart is not a dart of the plate.
+    OuterDart = 13,
+    /// The plate is not connected.
+    NotConnected = 14,
+    /// The plate is connected, but not plane.
+    NotPlane = 15,
+    /// The lent memory is shorter than what is to be written.
+    MemoryShort = 16,
+    /// Angles or right bends are not one for each dart.
+    ShapeLength = 17,
+    /// The shape's revision differs from the plate list's.
+    RevisionDiffers = 18,
+    /// An angle is outside 1 to 4.
+    AngleRange = 19,
+    /// The angles at some post do not add to 4.
+    AnglesAtPost = 20,
+    /// The turns of some face do not add to +4, or −4 for the outer face.
+    TurnsOfFace = 21,
+    /// The total differs from the sum of the right bends.
+    TotalDiffers = 22,
+}
+
+impl Refusal {
+    /// Every refusal, by rising number.
+    pub const ALL: [Refusal; 22] = [
+        Refusal::FieldCut,
+        Refusal::UnknownTag,
+        Refusal::RepeatedTag,
+        Refusal::FieldLength,
+        Refusal::ContentCut,
+        Refusal::FieldAbsent,
+        Refusal::PostCount,
+        Refusal::NoStrips,
+        Refusal::EndNotAPost,
+        Refusal::StripToItself,
+        Refusal::OverFourStrips,
+        Refusal::ClockwiseOrder,
+        Refusal::OuterDart,
+        Refusal::NotConnected,
+        Refusal::NotPlane,
+        Refusal::MemoryShort,
+        Refusal::ShapeLength,
+        Refusal::RevisionDiffers,
+        Refusal::AngleRange,
+        Refusal::AnglesAtPost,
+        Refusal::TurnsOfFace,
+        Refusal::TotalDiffers,
+    ];
+
+    /// Its number, 1 to 22.
+    pub fn number(self) -> u8 {
+        self as u8
+    }
+
+    /// The refusal with this number; none for 0 and for numbers over 22.
+    ///
+    /// ```
+    /// use plates::Refusal;
+    ///
+    /// assert_eq!(Refusal::from_number(15), Some(Refusal::NotPlane));
+    /// assert_eq!(Refusal::from_number(0), None);
+    /// assert_eq!(Refusal::NotPlane.to_string(), "refused 15: strips would cross in the given order round the posts");
+    /// ```
+    pub fn from_number(number: u8) -> Option<Refusal> {
+        let place = usize::from(number).checked_sub(1)?;
+        Refusal::ALL.get(place).copied()
+    }
+
+    /// What is wrong, in words.
+    fn message(self) -> &'static str {
+        match self {
+            Refusal::FieldCut => "the file ends in the middle of a field's tag and length",
+            Refusal::UnknownTag => "a field has a tag that does not belong in this file",
+            Refusal::RepeatedTag => "a field stands in the file twice",
+            Refusal::FieldLength => "a field has a length that its tag does not allow",
+            Refusal::ContentCut => "the file ends in the middle of a field's content",
+            Refusal::FieldAbsent => "a field that must be given is missing",
+            Refusal::PostCount => "the plate must have 1 to 64 posts",
+            Refusal::NoStrips => "the plate has no strips",
+            Refusal::EndNotAPost => "a strip ends at a post that the plate does not have",
+            Refusal::StripToItself => "a strip begins and ends at the same post",
+            Refusal::OverFourStrips => "a post has more than four strips",
+            Refusal::ClockwiseOrder => {
+                "the clockwise order must list, post after post, each dart that leaves the post once"
+            }
+            Refusal::OuterDart => "the outer dart is not a dart of the plate",
+            Refusal::NotConnected => "the plate is in separate pieces",
+            Refusal::NotPlane => "strips would cross in the given order round the posts",
+            Refusal::MemoryShort => "the memory lent is too short for the result",
+            Refusal::ShapeLength => "the shape must give one angle and one bend count for each dart",
+            Refusal::RevisionDiffers => "the shape was made for another revision of the plate list",
+            Refusal::AngleRange => "an angle is not 1 to 4 quarter turns",
+            Refusal::AnglesAtPost => "the angles round a post do not add to a full turn",
+            Refusal::TurnsOfFace => "the boundary of a face does not close",
+            Refusal::TotalDiffers => "the total given is not the number of bends in the shape",
+        }
+    }
+}
+
+impl fmt::Display for Refusal {
+    fn fmt(&self, f: &mut fmt::Formatter<'_>) -> fmt::Result {
+        write!(f, "refused {}: {}", self.number(), self.message())
+    }
+}
+
+impl Error for Refusal {}
+
+#[cfg(test)]
+mod tests {
+    use super::*;
+
+    #[test]
+    fn numbers_and_refusals_agree() {
+        for number in 0..=255 {
+            let refusal = Refusal::from_number(number);
+            assert_eq!(refusal.map_or(0, Refusal::number) == number, number <= 22);
+        }
+    }
+}

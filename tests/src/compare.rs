@@ -1,0 +1,107 @@
+//! Calls of the library against the independent implementation. A difference
+//! panics with the bytes in hexadecimal.
+
+use crate::files::{listing_of, shape_of, verdict_of, Solver, Verdict};
+
+/// Bytes as hexadecimal.
+pub fn hex(bytes: &[u8]) -> String {
+    let pairs: Vec<String> = bytes.iter().map(|b| format!("{b:02x}")).collect();
+    pairs.join(" ")
+}
+
+/// Lent memory before a call: no two neighbours alike.
+fn pattern(length: usize) -> Vec<u8> {
+    (0..length).map(|i| (i * 37 + 11) as u8).collect()
+}
+
+/// Memory of this length after `written` was put at its front.
+fn memory_after(length: usize, written: &[u8]) -> Vec<u8> {
+    let mut memory = pattern(length);
+    memory[..written.len()].copy_from_slice(written);
+    memory
+}
+
+/// Lengths to lend for a result of `length` bytes.
+fn lengths_to_lend(length: usize) -> Vec<usize> {
+    let mut lengths = vec![0, length / 2, length, length + 1, length + 100];
+    lengths.extend(length.checked_sub(1));
+    lengths
+}
+
+/// Compares shaping for lent memory of several lengths. Gives the number of
+/// the list's refusal, or 0.
+pub fn shaping(list: &[u8], best: Solver) -> u8 {
+    shaping_with(list, best, lengths_to_lend)
+}
+
+/// Compares shaping for memory that is longer than the shape.
+pub fn shaping_longer(list: &[u8], best: Solver) -> u8 {
+    shaping_with(list, best, |length| vec![length + 9])
+}
+
+fn shaping_with(list: &[u8], best: Solver, lengths: fn(usize) -> Vec<usize>) -> u8 {
+    let expected = shape_of(list, best);
+    let length = expected.as_ref().map_or(40, |(shape, _)| shape.len());
+    for lent in lengths(length) {
+        let one = match &expected {
+            Err(number) => Err(*number),
+            Ok((shape, _)) if lent < shape.len() => Err(16),
+            Ok((shape, bends)) => Ok((&shape[..], *bends)),
+        };
+        shaping_once(list, lent, one);
+    }
+    expected.err().unwrap_or(0)
+}
+
+fn shaping_once(list: &[u8], lent: usize, expected: Result<(&[u8], u32), u8>) {
+    let mut out = pattern(lent);
+    let given = plates::write_shape(list, &mut out);
+    let given = given.map(|shape| (shape.length, shape.bends));
+    let given = given.map_err(plates::Refusal::number);
+    let written = expected.map_or(&[][..], |(shape, _)| shape);
+    let wanted = expected.map(|(shape, bends)| (shape.len(), bends));
+    assert!(
+        given == wanted && out == memory_after(lent, written),
+        "write_shape: list {}\nlent {lent} bytes\ngiven {given:?}\nwanted {wanted:?}\nmemory {}\nwanted {}",
+        hex(list),
+        hex(&out),
+        hex(&memory_after(lent, written)),
+    );
+}
+
+/// Compares the verdict on a shape file. Gives its number, or 0.
+pub fn checking(list: &[u8], shape: &[u8], best: Solver) -> u8 {
+    let wanted = verdict_of(list, shape, best);
+    let given = plates::check_shape(list, shape);
+    let given = given.map_err(plates::Refusal::number).map(|v| Verdict {
+        total: v.total,
+        fewest: v.fewest,
+        ours: v.ours,
+    });
+    assert!(
+        given == wanted,
+        "check_shape: list {}\nshape {}\ngiven {given:?}\nwanted {wanted:?}",
+        hex(list),
+        hex(shape),
+    );
+    wanted.err().unwrap_or(0)
+}
+
+/// Compares the listing for lent memory of several lengths.
+pub fn listing(list: &[u8], best: Solver) {
+    let text = listing_of(list, best);
+    for lent in lengths_to_lend(text.len()) {
+        let enough = lent >= text.len();
+        let written = if enough { text.as_bytes() } else { &[] };
+        let wanted = if enough { Ok(text.len()) } else { Err(16) };
+        let mut out = pattern(lent);
+        let given = plates::write_listing(list, &mut out).map_err(plates::Refusal::number);
+        assert!(
+            given == wanted && out == memory_after(lent, written),
+            "write_listing: list {}\nlent {lent} bytes\ngiven {given:?}\nwanted {wanted:?}\nmemory {}\nwanted {}",
+            hex(list),
+            hex(&out),
+            hex(&memory_after(lent, written)),
+        );
+    }
+}

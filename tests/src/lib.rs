@@ -1,0 +1,27 @@
+//! An independent implementation of document 01, for comparison with the
+//! verified library. It shares no code and no algorithm with it.
+//!
+//! - [`files`]: fields, refusals, shape files, verdicts, listings.
+//! - [`plate`]: darts, rotation, faces, the conditions H3 and H4.
+//! - [`search`]: the best shape of a small plate by trying every shape.
+//! - [`cancelling`]: the best shape of any plate by cancelling cycles.
+//! - [`certificate`]: whether a given shape is the best one.
+//! - [`random`]: random plates from a seed.
+//! - [`compare`]: one call of the library against this implementation.
+//!
+//! `cargo test --release` runs the default mode, in seconds; with the variable
+//! PLATES_LONG=1 it runs the long mode, in minutes. `-- --nocapture` prints
+//! how many cases each test compared.
+
+pub mod cancelling;
+pub mod certificate;
+pub mod compare;
+pub mod files;
+pub mod plate;
+pub mod random;
+pub mod search;
+
+/// Whether the longer runs were asked for.
+pub fn long_mode() -> bool {
+    std::env::var_os("PLATES_LONG").is_some_and(|value| value == "1")
+}

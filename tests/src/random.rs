@@ -1,0 +1,245 @@
+//! Random plates from a seed.
+
+use crate::files::list_fields;
+use crate::plate::{twin, Plate};
+
+/// A small generator of pseudo-random numbers (splitmix64).
+pub struct Random(u64);
+
+impl Random {
+    pub fn new(seed: u64) -> Random {
+        Random(seed)
+    }
+
+    pub fn draw(&mut self) -> u64 {
+        self.0 = self.0.wrapping_add(0x9e37_79b9_7f4a_7c15);
+        let mut z = self.0;
+        z = (z ^ (z >> 30)).wrapping_mul(0xbf58_476d_1ce4_e5b9);
+        z = (z ^ (z >> 27)).wrapping_mul(0x94d0_49bb_1331_11eb);
+        z ^ (z >> 31)
+    }
+
+    /// A number below `bound`.
+    pub fn below(&mut self, bound: usize) -> usize {
+        (self.draw() % bound as u64) as usize
+    }
+
+    pub fn shuffle<T>(&mut self, items: &mut [T]) {
+        for i in (1..items.len()).rev() {
+            let j = self.below(i + 1);
+            items.swap(i, j);
+        }
+    }
+
+    pub fn bytes(&mut self, length: usize) -> Vec<u8> {
+        (0..length).map(|_| self.draw() as u8).collect()
+    }
+}
+
+/// A plate of one strip.
+fn one_strip() -> Plate {
+    Plate {
+        posts: 2,
+        strips: vec![[0, 1]],
+        order: vec![vec![0], vec![1]],
+        outer: 0,
+    }
+}
+
+/// A plate of two strips between two posts, without a post of degree 1.
+fn two_strips() -> Plate {
+    Plate {
+        posts: 2,
+        strips: vec![[0, 1], [0, 1]],
+        order: vec![vec![0, 2], vec![3, 1]],
+        outer: 0,
+    }
+}
+
+/// Puts `new` into the corner at the end of `dart`: just before its twin.
+fn insert_at_corner(plate: &mut Plate, dart: usize, new: usize) {
+    let around = &mut plate.order[plate.strips[dart / 2][1 - dart % 2]];
+    let place = around.iter().position(|&d| d == twin(dart));
+    around.insert(place.expect("every dart stands in the order"), new);
+}
+
+/// Joins a new post into the corner at the end of a dart.
+fn hang(plate: &mut Plate, random: &mut Random) {
+    let dart = random.below(plate.darts());
+    let post = plate.head(dart);
+    if plate.degree(post) == 4 {
+        return;
+    }
+    let new = plate.darts();
+    insert_at_corner(plate, dart, new);
+    plate.strips.push([post, plate.posts]);
+    plate.order.push(vec![twin(new)]);
+    plate.posts += 1;
+}
+
+/// Puts a new post on a strip.
+fn split(plate: &mut Plate, random: &mut Random) {
+    let dart = 2 * random.below(plate.strips.len());
+    let second = plate.head(dart);
+    let new = plate.darts();
+    let around = &mut plate.order[second];
+    let place = around.iter().position(|&d| d == twin(dart));
+    around[place.expect("every dart stands in the order")] = twin(new);
+    plate.strips[dart / 2][1] = plate.posts;
+    plate.strips.push([plate.posts, second]);
+    plate.order.push(vec![twin(dart), new]);
+    plate.posts += 1;
+}
+
+/// Joins two corners of one face by a new strip.
+fn join(plate: &mut Plate, random: &mut Random) {
+    let faces = plate.faces();
+    let face = &faces[random.below(faces.len())];
+    let a = face[random.below(face.len())];
+    let b = face[random.below(face.len())];
+    let (first, second) = (plate.head(a), plate.head(b));
+    if first == second || plate.degree(first) == 4 || plate.degree(second) == 4 {
+        return;
+    }
+    let new = plate.darts();
+    insert_at_corner(plate, a, new);
+    insert_at_corner(plate, b, twin(new));
+    plate.strips.push([first, second]);
+}
+
+/// A plane plate made by random splits, hangs and joins, with their shares of
+/// all steps in tenths.
+fn grow(plate: &mut Plate, posts: usize, joins: usize, hangs: usize, random: &mut Random) {
+    for _ in 0..20 * posts {
+        let step = random.below(10);
+        if step < joins {
+            if plate.strips.len() < 128 {
+                join(plate, random);
+            }
+        } else if plate.posts < posts {
+            if step < joins + hangs {
+                hang(plate, random);
+            } else {
+                split(plate, random);
+            }
+        }
+    }
+}
+
+/// The medial plate: a post for each strip, a strip for each corner. Every
+/// post has four strips. The given plate must have no post of degree 1.
+fn medial(plate: &Plate) -> Plate {
+    let darts = plate.darts();
+    let mut before = vec![0; darts];
+    (0..darts).for_each(|d| before[plate.after(d)] = d);
+    let around = |strip: usize| {
+        let (there, back) = (2 * strip, 2 * strip + 1);
+        vec![
+            2 * there,
+            twin(2 * before[there]),
+            2 * back,
+            twin(2 * before[back]),
+        ]
+    };
+    Plate {
+        posts: plate.strips.len(),
+        strips: (0..darts).map(|d| [d / 2, plate.after(d) / 2]).collect(),
+        order: (0..plate.strips.len()).map(around).collect(),
+        outer: 0,
+    }
+}
+
+/// The same plate with other numbers for posts and strips, other directions
+/// of strips, other starting darts, and another outer dart.
+fn renumber(plate: &Plate, random: &mut Random) -> Plate {
+    let mut posts: Vec<usize> = (0..plate.posts).collect();
+    let mut strips: Vec<usize> = (0..plate.strips.len()).collect();
+    random.shuffle(&mut posts);
+    random.shuffle(&mut strips);
+    let turned: Vec<usize> = strips.iter().map(|_| random.below(2)).collect();
+    let dart = |d: usize| 2 * strips[d / 2] + ((d % 2) ^ turned[d / 2]);
+    let mut new = plate.clone();
+    for d in 0..plate.darts() {
+        new.strips[dart(d) / 2][dart(d) % 2] = posts[plate.tail(d)];
+    }
+    for (post, around) in plate.order.iter().enumerate() {
+        let mut around: Vec<usize> = around.iter().map(|&d| dart(d)).collect();
+        let start = random.below(around.len());
+        around.rotate_left(start);
+        new.order[posts[post]] = around;
+    }
+    new.outer = random.below(plate.darts());
+    new
+}
+
+/// A random plane plate with at most `most` posts and twice as many strips.
+pub fn plane_plate(most: usize, random: &mut Random) -> Plate {
+    let posts = 2 + random.below(most - 1);
+    let plate = match random.below(4) {
+        0 => {
+            let mut base = two_strips();
+            let joins = 3 + random.below(5);
+            grow(&mut base, 2 + posts / 2, joins, 0, random);
+            if base.strips.len() <= most {
+                medial(&base)
+            } else {
+                base
+            }
+        }
+        1 => {
+            let mut plate = two_strips();
+            grow(&mut plate, posts, 8, 0, random);
+            plate
+        }
+        _ => {
+            let mut plate = one_strip();
+            let joins = random.below(9);
+            let hangs = random.below(10 - joins);
+            grow(&mut plate, posts, joins, hangs, random);
+            plate
+        }
+    };
+    renumber(&plate, random)
+}
+
+/// A plane plate, with the orders round a few posts shuffled: often not plane.
+pub fn shuffled_plate(most: usize, random: &mut Random) -> Plate {
+    let mut plate = plane_plate(most, random);
+    for _ in 0..1 + random.below(3) {
+        let post = random.below(plate.posts);
+        random.shuffle(&mut plate.order[post]);
+    }
+    plate
+}
+
+/// A ring of posts, each joined to the next by two strips: every post has four.
+pub fn double_ring(posts: usize) -> Plate {
+    let mut strips = Vec::new();
+    let mut order = Vec::new();
+    for post in 0..posts {
+        let next = (post + 1) % posts;
+        strips.extend([[post, next], [post, next]]);
+        let last = (post + posts - 1) % posts;
+        order.push(vec![4 * post, 4 * post + 2, 4 * last + 3, 4 * last + 1]);
+    }
+    Plate {
+        posts,
+        strips,
+        order,
+        outer: 0,
+    }
+}
+
+/// A plate list with a random revision, perhaps a remark, and its fields in
+/// random order.
+pub fn list_of(plate: &Plate, random: &mut Random) -> Vec<u8> {
+    let revision = random.draw() as u16;
+    let length = random.below(81);
+    let remark = random.bytes(length);
+    let remark = (random.below(2) == 0).then_some(&remark[..]);
+    let mut fields = list_fields(plate, revision, remark);
+    if random.below(2) == 0 {
+        random.shuffle(&mut fields);
+    }
+    fields.concat()
+}

@@ -1,0 +1,176 @@
+//! The best shape of a small plate by trying every shape in order.
+
+use crate::plate::{twin, Plate, Shape};
+
+/// Angles that meet H4, with their sum on each face.
+struct Angles {
+    angles: Vec<u32>,
+    sums: Vec<i64>,
+}
+
+/// What the search needs of a plate.
+struct Search<'a> {
+    plate: &'a Plate,
+    faces: Vec<Vec<usize>>,
+    /// Every choice of angles 1 to 4 that meets H4, the smaller first.
+    choices: Vec<Angles>,
+}
+
+/// The best shape: candidates are tried in the order of document 01, and the
+/// first that meets the conditions is taken.
+pub fn best(plate: &Plate) -> Shape {
+    let search = Search::new(plate);
+    (0..)
+        .find_map(|total| search.first_with(total))
+        .expect("every plate has a shape")
+}
+
+impl Search<'_> {
+    fn new(plate: &Plate) -> Search<'_> {
+        let faces = plate.faces();
+        let choices = all_angles(plate).into_iter().map(|angles| {
+            let sum = |face: &Vec<usize>| face.iter().map(|&d| i64::from(angles[d])).sum();
+            let sums = faces.iter().map(sum).collect();
+            Angles { angles, sums }
+        });
+        Search {
+            plate,
+            choices: choices.collect(),
+            faces,
+        }
+    }
+
+    /// The first shape with this total, if there is one.
+    fn first_with(&self, total: u32) -> Option<Shape> {
+        let mut found = None;
+        each_sequence(self.plate.darts(), total, &mut Vec::new(), &mut |rights| {
+            found = self.first_angles(rights);
+            found.is_some()
+        });
+        found
+    }
+
+    /// The first shape with these right bends that meets H3, if there is one.
+    fn first_angles(&self, rights: &[u32]) -> Option<Shape> {
+        let due = |face: &Vec<usize>| self.angles_due(face, rights);
+        let due: Vec<i64> = self.faces.iter().map(due).collect();
+        let choice = self.choices.iter().find(|choice| choice.sums == due)?;
+        let shape = Shape {
+            rights: rights.to_vec(),
+            angles: choice.angles.clone(),
+        };
+        assert!(self.plate.turns_close(&self.faces, &shape), "H3");
+        Some(shape)
+    }
+
+    /// The sum of a face's angles that gives it the turns that it must have.
+    fn angles_due(&self, face: &[usize], rights: &[u32]) -> i64 {
+        let without_angle = |&d: &usize| i64::from(rights[d]) - i64::from(rights[twin(d)]) + 2;
+        face.iter().map(without_angle).sum::<i64>() - self.plate.turns_due(face)
+    }
+}
+
+/// Every choice of angles 1 to 4 that meets H4, the smaller first. A start
+/// that no longer choice can complete is left out early.
+fn all_angles(plate: &Plate) -> Vec<Vec<u32>> {
+    let mut all = vec![Vec::new()];
+    for dart in 0..plate.darts() {
+        let post = plate.head(dart);
+        let to_come = (dart + 1..plate.darts()).filter(|&d| plate.head(d) == post);
+        let to_come = to_come.count() as u32;
+        let longer = |start: &Vec<u32>| (1..=4).map(|a| [&start[..], &[a]].concat()).collect();
+        all = all.iter().flat_map::<Vec<_>, _>(longer).collect();
+        all.retain(|start| {
+            let sum = sum_so_far(plate, post, start);
+            sum + to_come <= 4 && sum + 4 * to_come >= 4
+        });
+    }
+    all.retain(|angles| plate.angles_close(angles));
+    all
+}
+
+/// The sum of the angles chosen so far at a post.
+fn sum_so_far(plate: &Plate, post: usize, start: &[u32]) -> u32 {
+    let ending = (0..start.len()).filter(|&d| plate.head(d) == post);
+    ending.map(|d| start[d]).sum()
+}
+
+/// Calls `stop` with every sequence of `length` numbers that add to `total`,
+/// the smaller first, until it returns true. Returns whether it did.
+fn each_sequence(
+    length: usize,
+    total: u32,
+    start: &mut Vec<u32>,
+    stop: &mut dyn FnMut(&[u32]) -> bool,
+) -> bool {
+    if length == 0 {
+        return total == 0 && stop(start);
+    }
+    for number in 0..=total {
+        start.push(number);
+        let stopped = each_sequence(length - 1, total - number, start, stop);
+        start.pop();
+        if stopped {
+            return true;
+        }
+    }
+    false
+}
+
+/// A bend: true right, false left.
+type Word = Vec<bool>;
+
+/// The best shape of all those with any words of right and left bends, mixed
+/// ones included, by the counts of their right bends.
+pub fn best_with_words(plate: &Plate) -> Shape {
+    let search = Search::new(plate);
+    (0..)
+        .find_map(|total| {
+            let mut best = None;
+            each_words(plate.strips.len(), total, &mut Vec::new(), &mut |words| {
+                let found = search.first_angles(&rights_of(words));
+                best = earlier(best.take(), found);
+            });
+            best
+        })
+        .expect("every plate has a shape")
+}
+
+/// The one of two shapes with the same total that comes first.
+fn earlier(a: Option<Shape>, b: Option<Shape>) -> Option<Shape> {
+    let shapes = a.into_iter().chain(b);
+    shapes.min_by(|a, b| (&a.rights, &a.angles).cmp(&(&b.rights, &b.angles)))
+}
+
+/// Right bends of every dart; the twin's word is reversed and exchanged (H2).
+fn rights_of(words: &[Word]) -> Vec<u32> {
+    let mut rights = vec![0; 2 * words.len()];
+    for (strip, word) in words.iter().enumerate() {
+        let back: Word = word.iter().rev().map(|right| !right).collect();
+        rights[2 * strip] = count_rights(word);
+        rights[twin(2 * strip)] = count_rights(&back);
+    }
+    rights
+}
+
+fn count_rights(word: &Word) -> u32 {
+    word.iter().filter(|&&right| right).count() as u32
+}
+
+/// Calls `visit` with every choice of a word for each of `strips` strips, the
+/// lengths adding to `total`.
+fn each_words(strips: usize, total: usize, start: &mut Vec<Word>, visit: &mut dyn FnMut(&[Word])) {
+    if strips == 0 {
+        if total == 0 {
+            visit(start);
+        }
+        return;
+    }
+    for length in 0..=total {
+        for code in 0..1_u32 << length {
+            start.push((0..length).map(|bend| code >> bend & 1 == 1).collect());
+            each_words(strips - 1, total - length, start, visit);
+            start.pop();
+        }
+    }
+}

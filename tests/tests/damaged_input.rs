@@ -1,0 +1,192 @@
+//! Damaged lists and shapes: numbers and memory must agree.
+
+use plates_tests::cancelling;
+use plates_tests::compare;
+use plates_tests::files::{read_list, shape_bytes};
+use plates_tests::long_mode;
+use plates_tests::random::{list_of, plane_plate, Random};
+
+/// The fields of a sound file, each with its tag and length.
+fn split_fields(file: &[u8]) -> Vec<Vec<u8>> {
+    let mut fields = Vec::new();
+    let mut rest = file;
+    while !rest.is_empty() {
+        let length = 3 + usize::from(u16::from_be_bytes([rest[1], rest[2]]));
+        fields.push(rest[..length].to_vec());
+        rest = &rest[length..];
+    }
+    fields
+}
+
+/// Calls `visit` with each damaged form of a sound file.
+fn each_damaged(file: &[u8], random: &mut Random, visit: &mut dyn FnMut(&[u8])) {
+    changed_bytes(file, random, visit);
+    (0..file.len()).for_each(|length| visit(&file[..length]));
+    changed_lengths(file, visit);
+    let fields = split_fields(file);
+    for a in 0..fields.len() {
+        let mut without = fields.clone();
+        visit(&[&fields.concat()[..], &without.remove(a)].concat());
+        visit(&without.concat());
+        for b in 0..fields.len() {
+            let mut reordered = fields.clone();
+            reordered.swap(a, b);
+            visit(&reordered.concat());
+            reordered.insert(a, fields[b].clone());
+            visit(&reordered.concat());
+        }
+    }
+    for more in 1..=4 {
+        visit(&[file, &random.bytes(more)].concat());
+    }
+}
+
+/// Each byte changed, to several other values.
+fn changed_bytes(file: &[u8], random: &mut Random, visit: &mut dyn FnMut(&[u8])) {
+    for place in 0..file.len() {
+        let old = file[place];
+        let near = [old.wrapping_add(1), old.wrapping_sub(1), old ^ 0x80];
+        for new in [near[0], near[1], near[2], 0, 0xff, random.draw() as u8] {
+            let mut damaged = file.to_vec();
+            damaged[place] = new;
+            visit(&damaged);
+        }
+    }
+}
+
+/// Each field with its content cut or longer, its length told truly.
+fn changed_lengths(file: &[u8], visit: &mut dyn FnMut(&[u8])) {
+    let fields = split_fields(file);
+    for place in 0..fields.len() {
+        for length in [0, 1, 2, 3, 4, 79, 80, 81, 82, 254, 255, 256, 257, 258] {
+            let mut damaged = fields.clone();
+            damaged[place].resize(3 + length, 0);
+            damaged[place][1..3].copy_from_slice(&(length as u16).to_be_bytes());
+            visit(&damaged.concat());
+        }
+    }
+}
+
+/// Sizes of the plates to be damaged: mostly small.
+fn size(seed: u64) -> usize {
+    if seed % 8 == 7 {
+        40
+    } else {
+        3 + seed as usize % 8
+    }
+}
+
+fn how_many() -> u64 {
+    if long_mode() {
+        600
+    } else {
+        48
+    }
+}
+
+/// How often each number was met.
+type Numbers = [usize; 23];
+
+fn print_numbers(what: &str, numbers: &Numbers) {
+    let total: usize = numbers.iter().sum();
+    println!("{what}: {total} compared; by number {numbers:?}");
+}
+
+#[test]
+fn damaged_lists() {
+    let mut numbers = Numbers::default();
+    for seed in 0..how_many() {
+        let mut random = Random::new(2_000_000 + seed);
+        let list = list_of(&plane_plate(size(seed), &mut random), &mut random);
+        let mut other = Random::new(seed);
+        each_damaged(&list, &mut random, &mut |damaged| {
+            numbers[usize::from(compare::shaping(damaged, cancelling::best))] += 1;
+            if other.below(8) == 0 {
+                compare::listing(damaged, cancelling::best);
+            }
+        });
+    }
+    print_numbers("damaged lists", &numbers);
+    (1..=14).for_each(|number| assert_ne!(numbers[number], 0, "number {number}"));
+}
+
+#[test]
+fn damaged_shapes() {
+    let mut numbers = Numbers::default();
+    for seed in 0..how_many() {
+        let mut random = Random::new(3_000_000 + seed);
+        let list = list_of(&plane_plate(size(seed), &mut random), &mut random);
+        let read = read_list(&list).expect("the plate is plane");
+        let shape = match seed % 2 {
+            0 => cancelling::best(&read.plate),
+            _ => cancelling::any(&read.plate),
+        };
+        let file = shape_bytes(&read, &shape);
+        each_damaged(&file, &mut random, &mut |damaged| {
+            let number = compare::checking(&list, damaged, cancelling::best);
+            numbers[usize::from(number)] += 1;
+        });
+    }
+    print_numbers("damaged shapes", &numbers);
+    let own = (1..=6).chain(17..=22);
+    own.for_each(|number| assert_ne!(numbers[number], 0, "number {number}"));
+}
+
+/// A damaged list with a sound shape, and a damaged list with a damaged one:
+/// the list's refusal comes first.
+#[test]
+fn damaged_lists_with_shapes() {
+    let mut numbers = Numbers::default();
+    for seed in 0..how_many() / 4 {
+        let mut random = Random::new(4_000_000 + seed);
+        let list = list_of(&plane_plate(size(seed), &mut random), &mut random);
+        let read = read_list(&list).expect("the plate is plane");
+        let file = shape_bytes(&read, &cancelling::best(&read.plate));
+        let mut other = Random::new(seed);
+        each_damaged(&list, &mut random, &mut |damaged| {
+            let mut shape = file.clone();
+            let number = compare::checking(damaged, &shape, cancelling::best);
+            numbers[usize::from(number)] += 1;
+            let place = other.below(shape.len());
+            shape[place] = other.draw() as u8;
+            compare::checking(damaged, &shape, cancelling::best);
+        });
+    }
+    print_numbers("damaged lists with shapes", &numbers);
+}
+
+/// Every byte of P1 changed to every value, in list and in shape.
+#[test]
+fn every_value_of_every_byte() {
+    let list = [
+        1, 0, 2, 0, 7, 2, 0, 1, 2, 3, 0, 4, 0, 1, 0, 1, 4, 0, 4, 0, 2, 1, 3, 5, 0, 1, 1,
+    ];
+    let read = read_list(&list).expect("P1 is accepted");
+    let file = shape_bytes(&read, &cancelling::best(&read.plate));
+    for value in 0..=255 {
+        for place in 0..list.len() {
+            let mut damaged = list;
+            damaged[place] = value;
+            compare::shaping(&damaged, cancelling::best);
+            compare::listing(&damaged, cancelling::best);
+        }
+        for place in 0..file.len() {
+            let mut damaged = file.clone();
+            damaged[place] = value;
+            compare::checking(&list, &damaged, cancelling::best);
+        }
+    }
+}
+
+/// Short random files: mostly 1 to 6.
+#[test]
+fn random_bytes() {
+    let mut random = Random::new(5_000_000);
+    for _ in 0..20_000 {
+        let length = random.below(40);
+        let mut file = random.bytes(length);
+        file.iter_mut().for_each(|b| *b %= 8);
+        compare::shaping(&file, cancelling::best);
+        compare::checking(&file, &file, cancelling::best);
+    }
+}
