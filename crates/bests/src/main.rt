@@ -1,4 +1,4 @@
-//! The best shapes of document 01's plates, and verdicts on other shapes of P1. The expected lines are document 01's.
+//! The best shapes of document 01's plates, and verdicts on other shapes of P1. The shapes expected are document 01's; the verdicts were worked out by hand.
 ghost use mathlib.Core.Path.{_≡_};
 ghost use Prim.Native.Nat.{_%_, _≤_};
 ghost use lib.ListN.{length};
@@ -105,13 +105,13 @@ fn more_shapes_to_try() {
 fn verdicts() {
     // The shape that document 01 gives.
     verdict(b"P1's own", b"\x01\x03\x03\x01", b"\x00\x00\x00\x02");
-    // The two strips bend alike from the other side, with as many bends.
+    // The other strip bends, with as many bends.
     verdict(
         b"P1, bends on dart 0",
         b"\x01\x03\x03\x01",
         b"\x02\x00\x00\x00",
     );
-    // Each strip bends right and left once more.
+    // Strip 1 bends right and left once more.
     verdict(
         b"P1, two bends more",
         b"\x01\x03\x03\x01",

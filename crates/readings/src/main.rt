@@ -1,4 +1,4 @@
-//! Plates read: the refusal's number, or 0 with the number of faces and their degrees, by lowest dart. The expected faces were walked by hand.
+//! Plates read: the refusal's number, or 0 with the number of faces and their degrees, by lowest dart. The expected lines were compared with those of a separate program written from document 01.
 ghost use Prim.Native.Nat.{_%_, _≤_};
 ghost use mathlib.Core.Path.{_≡_};
 ghost use lib.ListN.{length};
