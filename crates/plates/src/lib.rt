@@ -1,14 +1,12 @@
 //! From plate list to the shape with fewest bends: shaping, checking, listing.
 ghost use mathlib.Core.Path.{_≡_};
-ghost use mathlib.Core.Bool.{true};
 ghost use mathlib.Core.List.{List};
 ghost use Prim.Native.Nat.{ℕ};
-ghost use lib.ListN.{length};
 ghost use Rattle.embedding.specs.Read.{Stands};
-ghost use Rattle.shapes.specs.Claims.{Accepted, Standing};
+ghost use Rattle.shapes.specs.Claims.{Accepted};
 ghost use Rattle.plates.specs.Files.{listFault, plateOf};
 ghost use Rattle.plates.specs.Says.{ShapeSays, CheckSays};
-ghost use Rattle.plates.specs.Read.{ShapeHeld, shapeFileFault, Readable};
+ghost use Rattle.plates.specs.Read.{shapeFileFault, Readable};
 ghost use Rattle.plates.specs.Listing.{ListingSays};
 use crate::checking::check_read;
 use crate::checking::refused_verdict;
