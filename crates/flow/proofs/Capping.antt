@@ -1,23 +1,22 @@
 -- With each arc held to the excess above its least, a least flow is a least flow, and what stalls stalls.
 use mathlib.Core.Path.{_≡_, sym, ap, _∙_, subst}
 use mathlib.Core.Logic.{_⊎_, inl, inr, ⊎-elim}
-use mathlib.Core.Bool.{true}
+use mathlib.Core.Bool.{Bool, true, false}
 use mathlib.Core.List.{List}
 use Prim.Native.Nat.{ℕ, _+_, _*_, _≤_, _<_, min}
 use native.Mathlib.Nat.{mul-le-mul-left, le-refl}
 use native.Mathlib.Omega.{arith}
 use lib.ListN.{length, getD}
 use Rattle.finite.proofs.Sums.{sumBelow, sum-cong, sum-le, total-sum}
-use Rattle.flow.specs.Network.{Network, Flow, Sound, Least, total, costOf, smaller, unbounded, excess, excessAt, network, Best, NoFlow}
-use Rattle.flow.specs.Residual.{Shaped, residualOf}
-use Rattle.flow.specs.Solver.{State, Carried, Caps, Spread, Zeros, Ready, Stalled, Capped, First, Settled, phaseMost}
+use Rattle.residual.specs.Residual.{Shaped}
+use Rattle.flow.specs.Network.{Network, Flow, Sound, Least, total, costOf, smaller, unbounded, excess, excessAt, network, Either, Best, NoFlow}
+use Rattle.flow.specs.Solver.{residualOf, State, Carried, Caps, Spread, Zeros, Ready, Stalled, Capped, First, Settled, Finished, Blocked, phaseMost}
 use Rattle.flow.proofs.Names.{arcs, nodes, tail, head, lower, upper, GoesOut, GoesIn, Full, AtLower}
 use Rattle.flow.proofs.Units.{costOf-sum}
 use Rattle.flow.proofs.Fills.{total-has}
-use Rattle.flow.proofs.Starts.{state-start}
+use Rattle.flow.proofs.Starts.{state-start, shaped}
 use Rattle.flow.proofs.Stuck.{stuck-cut, finished}
 use Rattle.flow.proofs.Members.{members, reached-member, member-reached, member-unreached}
-use Rattle.flow.proofs.Duals.{shaped}
 use Rattle.flow.proofs.Lexicographic.{upto-none, priced-least}
 use Rattle.flow.proofs.Trims.{excess-sum, trim}
 use Rattle.flow.proofs.Uniques.{smaller-trans, below-smaller}
@@ -187,6 +186,23 @@ module _ (n : Network) (sound : Sound n) (e : ℕ) (is-excess : e ≡ excess n) 
 
   pub capped-bounds : (x pot : List ℕ) → Capped (residualOf m x pot)
   capped-bounds x pot = cap-bounds
+
+  -- from a start to the least flow, or to a cut
+  pub ended :
+      (left lack : List ℕ) →
+      Spread n left lack →
+      total left ≡ e →
+      (x x′ : List ℕ) →
+      x ≡ n .lowers →
+      (b : Bool) →
+      Either b (Finished (n .tails) (n .heads) (n .lowers) caps (n .costs) x left lack x′) (Blocked (n .tails) (n .heads) (n .lowers) caps (n .costs) x left lack) →
+      Either b (Best n x′) (NoFlow n)
+  ended left lack s all x x′ is true f =
+      settled-best (f .units) x′ (f .pot)
+      (flow-found left lack s (f .units) (f .left′) (f .lack′) (subst (λ (w : List ℕ). Carried (n .tails) (n .heads) w left lack (f .units) (f .left′) (f .lack′)) is (f .carried)) (f .pot) 0 (f .emptied .ready) (f .emptied .none) (f .long ∙ s .left-long))
+      (f .settled)
+  ended left lack s all x x′ is false f =
+      stalled-cut left lack s (f .units) (f .left′) (f .lack′) (f .pot) all (subst (λ (w : List ℕ). Carried (n .tails) (n .heads) w left lack (f .units) (f .left′) (f .lack′)) is (f .carried)) (f .long ∙ s .left-long) (f .stalled)
 
 -- what is left at first is the excess
 pub spread-total : (n : Network) (left lack : List ℕ) → Spread n left lack → total left ≡ excess n

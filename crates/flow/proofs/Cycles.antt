@@ -5,11 +5,11 @@ use mathlib.Core.List.{List}
 use Prim.Native.Nat.{ℕ, _-_, _≤_, _<_}
 use native.Mathlib.Omega.{arith}
 use lib.ListN.{length, getD, set}
+use Rattle.residual.specs.Residual.{Balanced}
+use Rattle.residual.proofs.Units.{unitsAt-fewer}
 use Rattle.flow.specs.Network.{Network, Flow, Sound, unbounded}
-use Rattle.flow.specs.Residual.{Balanced}
 use Rattle.flow.specs.Solver.{Bounded}
 use Rattle.flow.proofs.Names.{arcs, tail, head, lower, upper}
-use Rattle.flow.proofs.Units.{unitsAt-fewer}
 use Rattle.flow.proofs.Starts.{bounded-set}
 
 pub cycle-flow : (n : Network) → Sound n → (x x′ : List ℕ) (k : ℕ) → k < arcs n → Flow n x → Bounded n x′ → lower n k < getD x′ k 0

@@ -8,10 +8,9 @@ use native.Mathlib.Omega.{arith}
 use lib.ListN.{getD}
 use Rattle.finite.proofs.Order.{Order, less, same, more, order}
 use Rattle.finite.proofs.Sums.{sumBelow, sum-add, sum-le, sum-tight}
+use Rattle.residual.specs.Prices.{Priced}
 use Rattle.flow.specs.Network.{Network, Flow, Sound, unbounded, costOf}
-use Rattle.flow.specs.Residual.{residualOf}
-use Rattle.flow.specs.Prices.{Priced}
-use Rattle.flow.specs.Solver.{Capped}
+use Rattle.flow.specs.Solver.{residualOf, Capped}
 use Rattle.flow.proofs.Names.{arcs, tail, head, upper, cost, Free}
 use Rattle.flow.proofs.Units.{costOf-sum, worth, worth-additive}
 use Rattle.flow.proofs.Balance.{exchange}

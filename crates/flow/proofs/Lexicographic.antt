@@ -11,12 +11,11 @@ use lib.ListN.{length, getD}
 use lib.Seq.{ext-getD}
 use borrow.Author.Tests.{lt-ltb, le-ltb, eq-eqb, ltb-true, eqb-true}
 use Rattle.finite.proofs.Order.{Order, less, same, more, order}
-use Rattle.flow.specs.Network.{Network, Flow, Sound, Least, costOf, smaller}
-use Rattle.flow.specs.Residual.{residualOf}
-use Rattle.flow.specs.Prices.{Priced}
-use Rattle.flow.specs.Solver.{Agree, Upto, Capped}
-use Rattle.flow.proofs.Names.{arcs, Free, AtLower}
 use Rattle.finite.proofs.Tests.{not-both}
+use Rattle.residual.specs.Prices.{Priced}
+use Rattle.flow.specs.Network.{Network, Flow, Sound, Least, costOf, smaller}
+use Rattle.flow.specs.Solver.{residualOf, Agree, Upto, Capped}
+use Rattle.flow.proofs.Names.{arcs, Free, AtLower}
 use Rattle.flow.proofs.Duality.{priced-cheapest, frozen-kept}
 use Rattle.flow.proofs.Stage.{Barrier, stage}
 

@@ -8,13 +8,17 @@ use native.Mathlib.Decide.{decLt}
 use native.Mathlib.Omega.{arith}
 use lib.ListN.{length, getD, set, length-set, List·getD-eq-default}
 use Rattle.finite.proofs.Sums.{total-set}
+use Rattle.residual.specs.Residual.{Residual, Shaped, Rooted, Searched, Pushed, reflowed, repriced, tailOf, headOf, reached, unreached}
+use Rattle.residual.specs.Chains.{Chains, Workspace}
+use Rattle.residual.specs.Searches.{Lacks, Sought}
+use Rattle.residual.specs.Prices.{Gap, Raised, Sums}
+use Rattle.residual.proofs.Sources.{marks-long, source-marked, marked-source, some-left}
+use Rattle.residual.proofs.Passes.{unreached-set}
+use Rattle.residual.proofs.Queues.{searched-whole}
+use Rattle.residual.proofs.Duals.{unreached-source, priced-pushed, priced-raised, same-price, price, search-further, full-out, least-in}
 use Rattle.flow.specs.Network.{total, costMost}
-use Rattle.flow.specs.Residual.{Residual, Shaped, Searched, Pushed, reflowed, repriced, tailOf, headOf, reached, unreached}
-use Rattle.flow.specs.Prices.{Gap, Raised, Sums}
-use Rattle.flow.specs.Solver.{Carried, Ready, Stalled, Explored, Lacking, Sent, marksOf, raiseMost, phaseMost}
+use Rattle.flow.specs.Solver.{Carried, Ready, Stalled, Explored, Sent, marksOf, raiseMost, phaseMost}
 use Rattle.flow.proofs.Starts.{taken}
-use Rattle.flow.proofs.Sources.{marks-long, source-marked, marked-source, some-left}
-use Rattle.flow.proofs.Duals.{unreached-source, priced-pushed, priced-raised, same-price, price, search-further, full-out, least-in}
 
 -- the same arcs with another flow and other potentials of the same lengths
 pub reshaped : (r : Residual) (nodes : ℕ) (x pot : List ℕ) → length x ≡ length (r .x) → length pot ≡ length (r .pot) → Shaped r nodes → Shaped (reflowed (repriced r pot) x) nodes
@@ -47,7 +51,7 @@ ready-rest r rest less left lack h k = record {
 pub ready-sums : (r : Residual) (rest : ℕ) (left lack : List ℕ) → Ready r rest left lack → Sums r
 ready-sums r rest left lack k a l = omega (arith, k .cheap a l, k .budget (tailOf r a))
 
-module _ (r : Residual) (rest : ℕ) (left lack dist via : List ℕ) (k : Ready r rest left lack) (s : Searched r 0 (marksOf left) dist via) where
+module _ (r : Residual) (rest : ℕ) (left lack dist via : List ℕ) (k : Ready r rest left lack) (s : Rooted r 0 (marksOf left) dist via) where
   dist-long : length dist ≡ length left
   dist-long = s .long ∙ marks-long left
 
@@ -100,97 +104,145 @@ module _ (r : Residual) (rest : ℕ) (left lack dist via : List ℕ) (k : Ready 
       (λ w. omega (arith, w .1, price-reached (headOf r a) (w .0 .near-in)))
       l
 
+-- ---- the space to search in
+
+-- it is kept as long as its lists keep their lengths
+pub workspace-kept : {tails heads : List ℕ} {nodes nodes′ : ℕ} {dist via queue outs outlinks ins inlinks dist′ via′ queue′ : List ℕ} → nodes′ ≡ nodes → length dist′ ≡ length dist → length via′ ≡ length via → length queue′ ≡ length queue
+    → Workspace tails heads nodes dist via queue outs outlinks ins inlinks → Workspace tails heads nodes′ dist′ via′ queue′ outs outlinks ins inlinks
+workspace-kept {tails = tails} {heads = heads} {outs = outs} {outlinks = outlinks} {ins = ins} {inlinks = inlinks} e d v q w = record {
+  dist-long = d ∙ w .dist-long ∙ sym e;
+  via-long = v ∙ w .via-long ∙ sym e;
+  queue-long = q ∙ w .queue-long ∙ sym e;
+  chains = subst (λ (n : ℕ). Chains tails heads n outs outlinks ins inlinks) (sym e) (w .chains);
+}
+
 -- ---- the first search of a phase
 
-module _ (r : Residual) (left lack dist via : List ℕ) (some : 0 < total left) where
-  pub explored-first : Ready r (phaseMost * total left) left lack → Searched r 0 (marksOf left) dist via → Explored r left lack dist via
+module _ (r : Residual) (left lack dist via : List ℕ) (v : ℕ) (some : 0 < total left) where
+  pub explored-first : Ready r (phaseMost * total left) left lack → Sought r 0 (marksOf left) lack dist via v → Explored r left lack dist via v
   explored-first k s =
-      let (v, l, p) = some-left left some in
-      let few = unreached-source dist v (omega (arith, dist-long r (phaseMost * total left) left lack dist via k s)) (omega (arith, source-reached r (phaseMost * total left) left lack dist via k s v p)) in
+      let (u, l, p) = some-left left some in
+      let few = unreached-source dist u (omega (arith, dist-long r (phaseMost * total left) left lack dist via k (s .rooted))) (omega (arith, source-reached r (phaseMost * total left) left lack dist via k (s .rooted) u p)) in
       record {
-        ready = ready-rest r (phaseMost * total left) (raiseMost * unreached dist + phaseMost * (total left - 1)) left lack
-            (omega (arith, few, dist-long r (phaseMost * total left) left lack dist via k s, k .shaped .nodes-few)) k;
-        searched = s;
+        ready = ready-rest r (phaseMost * total left) (phaseMost * (total left - 1)) left lack (omega arith) k;
+        sought = s;
+        raises = λ _. ready-rest r (phaseMost * total left) (raiseMost * unreached dist + phaseMost * (total left - 1)) left lack
+            (omega (arith, few, dist-long r (phaseMost * total left) left lack dist via k (s .rooted), k .shaped .nodes-few)) k;
       }
 
--- ---- a raise, and the search after it
+-- all that is 255 or more tells the same: no node was reached
+pub explored-stuck : (r : Residual) (left lack dist via : List ℕ) (v : ℕ) → 255 ≤ v → Explored r left lack dist via v → Explored r left lack dist via 255
+explored-stuck r left lack dist via v h x = record {
+  ready = x .ready;
+  sought = record { rooted = x .sought .rooted; some = λ l. absurd (omega arith); closed = λ _. x .sought .closed h; none = λ _. x .sought .none h };
+  raises = λ _. x .raises h;
+}
 
-module _ (r : Residual) (left lack dist via : List ℕ) (x : Explored r left lack dist via) where
+-- ---- a raise where no node that lacks something is reached, and the search after it
+
+module _ (r : Residual) (left lack dist via : List ℕ) (v : ℕ) (x : Explored r left lack dist via v) (none : 255 ≤ v) where
   abbrev rest : ℕ
   rest = raiseMost * unreached dist + phaseMost * (total left - 1)
 
   abbrev k : Ready r rest left lack
-  k = x .ready
+  k = x .raises none
 
-  abbrev s : Searched r 0 (marksOf left) dist via
-  s = x .searched
+  s : Searched r 0 (marksOf left) dist via
+  s = searched-whole none (x .sought)
 
-  pub nodes-reached : length dist ≡ length left
-  nodes-reached = dist-long r rest left lack dist via k s
+  stuck-nodes : length dist ≡ length left
+  stuck-nodes = dist-long r rest left lack dist via k (s .rooted)
 
-  pub shaped-here : Shaped r (length dist)
-  shaped-here = subst (Shaped r) (sym nodes-reached) (k .shaped)
+  pub shaped-stuck : Shaped r (length dist)
+  shaped-stuck = subst (Shaped r) (sym stuck-nodes) (k .shaped)
 
-  pub raise-fits : (g : ℕ) → Gap r dist (length (r .tails)) g → 0 < g → (v : ℕ) → 255 ≤ getD dist v 0 → getD (r .pot) v 0 + g < 2 ^ 64
-  raise-fits g m pos v h = omega (arith, gap-most r rest left lack dist via k s g m pos, k .budget v)
+  pub raise-fits : (g : ℕ) → Gap r dist (length (r .tails)) g → 0 < g → (u : ℕ) → 255 ≤ getD dist u 0 → getD (r .pot) u 0 + g < 2 ^ 64
+  raise-fits g m pos u h = omega (arith, gap-most r rest left lack dist via k (s .rooted) g m pos, k .budget u)
 
   module _ (g : ℕ) (m : Gap r dist (length (r .tails)) g) (pos : 0 < g) (pot′ : List ℕ) (q : Raised dist g (r .pot) pot′) where
     pub shaped-raised : Shaped (repriced r pot′) (length left)
     shaped-raised = reshaped r (length left) (r .x) pot′ refl (q .long) (k .shaped)
 
-    module _ (dist′ via′ : List ℕ) (n : Searched (repriced r pot′) 0 (marksOf left) dist′ via′) where
-      pub fewer-unreached : unreached dist′ < unreached dist
-      fewer-unreached = search-further r (marksOf left) dist via s g m pos pot′ q dist′ via′ n shaped-here
+    -- an arc leaves the reached nodes, so one node at least is not reached
+    some-unreached : 0 < unreached dist
+    some-unreached =
+        let (a, arc, l) = m .met pos in
+        ⊎-elim
+        (λ w. omega (arith, unreached-set dist (headOf r a) 0 (shaped-stuck .heads-in a arc) (w .0 .far-out) (omega arith)))
+        (λ w. omega (arith, unreached-set dist (tailOf r a) 0 (shaped-stuck .tails-in a arc) (w .0 .far-out) (omega arith)))
+        l
 
-      pub explored-again : Explored (repriced r pot′) left lack dist′ via′
+    raised-ready : (less : ℕ) → less + raiseMost ≤ rest → Ready (repriced r pot′) less left lack
+    raised-ready less h = record {
+      shaped = shaped-raised;
+      lack-long = k .lack-long;
+      priced = priced-raised r dist g pot′ q (k .priced) (λ a l. s .closed a (omega arith) l) m;
+      cheap = k .cheap;
+      above = k .above;
+      below = k .below;
+      sources = λ u h.
+          same-price r dist g pot′ q u (omega (arith, source-reached r rest left lack dist via k (s .rooted) u h)) ∙ k .sources u h;
+      budget = λ u.
+          ⊎-elim
+          (λ w. omega (arith, w .0, k .budget u))
+          (λ w. omega (arith, w .0, k .budget u, gap-most r rest left lack dist via k (s .rooted) g m pos))
+          (price r dist g pot′ q u);
+    }
+
+    module _ (dist′ via′ : List ℕ) (v′ : ℕ) (n : Sought (repriced r pot′) 0 (marksOf left) lack dist′ via′ v′) where
+      pub fewer-unreached : 255 ≤ v′ → unreached dist′ < unreached dist
+      fewer-unreached h =
+          search-further r (marksOf left) dist via s g m pos pot′ q dist′ via′ (searched-whole h n) shaped-stuck
+
+      pub explored-again : Explored (repriced r pot′) left lack dist′ via′ v′
       explored-again = record {
-        ready = record {
-          shaped = shaped-raised;
-          lack-long = k .lack-long;
-          priced = priced-raised r dist g pot′ q (k .priced) (λ a l. s .closed a (omega arith) l) m;
-          cheap = k .cheap;
-          above = k .above;
-          below = k .below;
-          sources = λ v h.
-              same-price r dist g pot′ q v (omega (arith, source-reached r rest left lack dist via k s v h)) ∙ k .sources v h;
-          budget = λ v.
-              ⊎-elim
-              (λ w. omega (arith, w .0, k .budget v, fewer-unreached))
-              (λ w. omega (arith, w .0, k .budget v, fewer-unreached, gap-most r rest left lack dist via k s g m pos))
-              (price r dist g pot′ q v);
-        };
-        searched = n;
+        ready = raised-ready (phaseMost * (total left - 1)) (omega (arith, some-unreached));
+        sought = n;
+        raises = λ h. raised-ready (raiseMost * unreached dist′ + phaseMost * (total left - 1)) (omega (arith, fewer-unreached h));
       }
 
   -- ---- nothing can be sent
 
-  pub stalled : 0 < total left → (v : ℕ) → Lacking dist lack (length dist) v → 255 ≤ v → Gap r dist (length (r .tails)) 0 → Stalled r left lack
-  stalled some v l none m =
+  pub stalled : 0 < total left → Gap r dist (length (r .tails)) 0 → Stalled r left lack
+  stalled some m =
       let (u, node, p) = some-left left some in
       record {
         ready = ready-rest r rest 0 left lack (omega arith) k;
         marks = dist;
-        long = nodes-reached;
-        met = λ w h. l .none none w (omega (arith, nodes-reached));
+        long = stuck-nodes;
+        met = λ w h. x .sought .none none w (omega (arith, stuck-nodes));
         source = u;
         node = node;
-        marked = omega (arith, source-reached r rest left lack dist via k s u p);
+        marked = omega (arith, source-reached r rest left lack dist via k (s .rooted) u p);
         some = p;
         full = full-out r dist (k .priced) (λ a h. s .closed a (omega arith) h) m;
         low = least-in r dist (k .priced) (λ a h. s .closed a (omega arith) h) m;
       }
 
-  -- ---- one unit is sent
+-- ---- one unit is sent to the node that was reached
 
-  module _ (target : ℕ) (node : target < length dist) (lacks : 0 < getD lack target 0) (x′ : List ℕ) (source : ℕ) (p : Pushed r 0 dist target x′ source) where
+module _ (r : Residual) (left lack dist via : List ℕ) (target : ℕ) (x : Explored r left lack dist via target) where
+  abbrev here : ℕ
+  here = phaseMost * (total left - 1)
+
+  pub nodes-reached : length dist ≡ length left
+  nodes-reached = dist-long r here left lack dist via (x .ready) (x .sought .rooted)
+
+  pub shaped-here : Shaped r (length dist)
+  shaped-here = subst (Shaped r) (sym nodes-reached) (x .ready .shaped)
+
+  module _ (found : target < 255) (x′ : List ℕ) (source : ℕ) (p : Pushed r 0 dist target x′ source) where
+    abbrev lacking : Lacks dist lack target
+    lacking = x .sought .some found
+
     pub source-in : source < length left
     source-in = omega (arith, p .node, nodes-reached)
 
     pub source-some : 0 < getD left source 0
-    source-some = marked-source left source source-in (s .adds-none source (p .source-mark))
+    source-some = marked-source left source source-in (x .sought .rooted .adds-none source (p .source-mark))
 
-    target-in : target < length lack
-    target-in = omega (arith, nodes-reached, k .lack-long)
+    pub target-in : target < length lack
+    target-in = omega (arith, lacking .node, nodes-reached, x .ready .lack-long)
 
     abbrev left′ : List ℕ
     left′ = set left source (getD left source 0 - 1)
@@ -203,7 +255,7 @@ module _ (r : Residual) (left lack dist via : List ℕ) (x : Explored r left lac
 
     pub carried : Carried (r .tails) (r .heads) (r .x) left lack x′ left′ lack′
     carried = record {
-      balance = λ v. omega (arith, p .balanced v, taken left source 1 v source-in source-some, taken lack target 1 v target-in lacks);
+      balance = λ v. omega (arith, p .balanced v, taken left source 1 v source-in source-some, taken lack target 1 v target-in (lacking .some));
       slow = λ a.
           ⊎-elim (λ h. omega (arith, h, one-fewer)) (λ h. ⊎-elim (λ w. omega (arith, w, one-fewer)) (λ w. omega (arith, w, one-fewer)) (h .by-one)) (p .arcs a);
     }
@@ -211,16 +263,16 @@ module _ (r : Residual) (left lack dist via : List ℕ) (x : Explored r left lac
     pub sent : Sent (reflowed r x′) left′ lack′ left
     sent = record {
       ready = record {
-        shaped = subst (Shaped (reflowed r x′)) (sym (length-set left source _)) (reshaped r (length left) x′ (r .pot) (p .long) refl (k .shaped));
-        lack-long = length-set lack target _ ∙ k .lack-long ∙ sym (length-set left source _);
-        priced = priced-pushed r 0 dist target x′ source p (k .priced);
-        cheap = k .cheap;
-        above = λ a l. ⊎-elim (λ h. omega (arith, h, k .above a l)) (λ h. h .above (k .above a l)) (p .arcs a);
-        below = λ a l. ⊎-elim (λ h. omega (arith, h, k .below a l)) (λ h. h .below (k .below a l)) (p .arcs a);
-        sources = λ v h. k .sources v (omega (arith, taken left source 1 v source-in source-some));
-        budget = λ v. omega (arith, k .budget v, one-fewer);
+        shaped = subst (Shaped (reflowed r x′)) (sym (length-set left source _)) (reshaped r (length left) x′ (r .pot) (p .long) refl (x .ready .shaped));
+        lack-long = length-set lack target _ ∙ x .ready .lack-long ∙ sym (length-set left source _);
+        priced = priced-pushed r 0 dist target x′ source p (x .ready .priced);
+        cheap = x .ready .cheap;
+        above = λ a l. ⊎-elim (λ h. omega (arith, h, x .ready .above a l)) (λ h. h .above (x .ready .above a l)) (p .arcs a);
+        below = λ a l. ⊎-elim (λ h. omega (arith, h, x .ready .below a l)) (λ h. h .below (x .ready .below a l)) (p .arcs a);
+        sources = λ v h. x .ready .sources v (omega (arith, taken left source 1 v source-in source-some));
+        budget = λ v. omega (arith, x .ready .budget v, one-fewer);
       };
-      fewer = one-fewer;
+      fewer = omega (arith, one-fewer);
     }
 
 -- nothing has moved

@@ -10,8 +10,11 @@ use native.Mathlib.Omega.{arith}
 use lib.ListN.{length, getD, set, length-set}
 use lib.Seq.{getD-set-same, getD-set-other}
 use Rattle.finite.proofs.Sums.{sumBelow, when-most, sum-cong, sum-le, sum-lt, sum-set, total-sum}
+use Rattle.residual.specs.Residual.{Residual, residual, reached, unreached, Opens, ShutAt, Passed, Searched, Walkable, Walked, Pushed, Balanced}
+use Rattle.residual.proofs.Sources.{single-fresh}
+use Rattle.residual.proofs.Passes.{pass-start, pass-over, pass-reach, pass-join, pass-last, fresh-ranked}
+use Rattle.residual.proofs.Walks.{walk-start, step-walks, pushed}
 use Rattle.flow.specs.Network.{Network, Flow, Sound, total, unitsAt, when, within, crossing, excess, excessAt, excessFrom}
-use Rattle.flow.specs.Residual.{Residual, residual, reached, unreached, Opens, ShutAt, Passed, Searched, Walkable, Walked, Pushed, Balanced}
 use Rattle.flow.specs.Solver.{Single, Bounded}
 use Rattle.flow.proofs.Names.{arcs, nodes, tail, head, lower, supply, demand, GoesOut, GoesIn}
 use Rattle.flow.proofs.Units.{crossing-sum, inside-add}
@@ -19,9 +22,6 @@ use Rattle.flow.proofs.Crossing.{crossing-le, crossing-balance}
 use Rattle.flow.proofs.Members.{members, reached-member, unreached-member, member-reached, member-unreached}
 use Rattle.flow.proofs.Starts.{at-set}
 use Rattle.flow.proofs.Cycles.{cycle-flow}
-use Rattle.flow.proofs.Sources.{single-fresh}
-use Rattle.flow.proofs.Passes.{pass-start, pass-over, pass-reach, pass-join, pass-last, fresh-ranked}
-use Rattle.flow.proofs.Walks.{walk-start, step-walks, pushed}
 
 -- ---- the excess as a sum
 
@@ -248,7 +248,7 @@ module _ (n : Network) (sound : Sound n) (y : List ℕ) (flow : Flow n y) (a : �
   found = closed .searched
 
   long : length dist ≡ nodes n
-  long = found .long ∙ start-long
+  long = found .rooted .long ∙ start-long
 
   lower-at : (b : ℕ) → (b ≡ a → ⊥) → getD (r .lowers) b 0 ≡ lower n b
   lower-at b d = getD-set-other (n .lowers) a b (getD y a 0) 0 d
@@ -263,7 +263,7 @@ module _ (n : Network) (sound : Sound n) (y : List ℕ) (flow : Flow n y) (a : �
     | no far ↦ absurd (omega (
       arith,
       leaves-few n sound y flow (members dist) low a arc (
-        reached-member dist (tail n a) (omega (arith, long, sound .tails-in a arc)) (omega (arith, found .keeps (tail n a) (start-single .marked))),
+        reached-member dist (tail n a) (omega (arith, long, sound .tails-in a arc)) (omega (arith, found .rooted .keeps (tail n a) (start-single .marked))),
         unreached-member dist (head n a) (omega (arith, long, sound .heads-in a arc)) (omega (arith, far)),
       ),
     ))
@@ -276,7 +276,7 @@ module _ (n : Network) (sound : Sound n) (y : List ℕ) (flow : Flow n y) (a : �
           elim (decLt (getD (r .lowers) b 0) (getD y b 0)) [
             | yes room ↦ absurd (omega (arith, found .closed b (omega arith) l .down refl near room))
             | no none ↦ elim (ℕ-discrete b a) [
-              | yes e ↦ absurd (omega (arith, found .keeps (tail n a) (start-single .marked), ap (λ (i : ℕ). getD dist (tail n i) 0) e))
+              | yes e ↦ absurd (omega (arith, found .rooted .keeps (tail n a) (start-single .marked), ap (λ (i : ℕ). getD dist (tail n i) 0) e))
               | no d ↦ omega (arith, none, lower-at b d)
             ]
           ]
@@ -285,11 +285,11 @@ module _ (n : Network) (sound : Sound n) (y : List ℕ) (flow : Flow n y) (a : �
   walks = record {
     heads-long = sound .heads-long;
     x-long = flow .long;
-    via-long = found .via-long ∙ sym (found .long);
+    via-long = found .rooted .via-long ∙ sym (found .rooted .long);
     tails-in = λ b l. omega (arith, long, sound .tails-in b l);
     heads-in = λ b l. omega (arith, long, sound .heads-in b l);
-    arcs-in = λ v pos h. found .tree v pos h .arc;
-    way = λ v pos h. ⊎-elim (λ q. absurd (omega (arith, q .1))) (λ q. inr (q .0, omega (arith, q .1))) (found .tree v pos h .way);
+    arcs-in = λ v pos h. found .rooted .tree v pos h .arc;
+    way = λ v pos h. ⊎-elim (λ q. absurd (omega (arith, q .1))) (λ q. inr (q .0, omega (arith, q .1))) (found .rooted .tree v pos h .way);
   }
 
   walk : Down-to-source (n .tails) (n .heads) dist via y walks (head n a)
@@ -301,12 +301,12 @@ module _ (n : Network) (sound : Sound n) (y : List ℕ) (flow : Flow n y) (a : �
   y′ = walk .flow
 
   push : Pushed r 0 dist (head n a) y′ (walk .source)
-  push = pushed r 0 dist via (found .tree) y′ (head n a) (walk .source) (walk .walked) (walk .marked)
+  push = pushed r 0 dist via (found .rooted .tree) y′ (head n a) (walk .source) (walk .walked) (walk .marked)
 
   source-is : walk .source ≡ tail n a
   source-is = elim (ℕ-discrete (walk .source) (tail n a)) [
     | yes e ↦ e
-    | no d ↦ absurd (omega (arith, found .adds-none (walk .source) (walk .marked), start-single .others (walk .source) (omega (arith, push .node, found .long)) d))
+    | no d ↦ absurd (omega (arith, found .rooted .adds-none (walk .source) (walk .marked), start-single .others (walk .source) (omega (arith, push .node, found .rooted .long)) d))
   ]
 
   no-more : (b : ℕ) → getD y′ b 0 ≤ getD y b 0

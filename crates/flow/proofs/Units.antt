@@ -2,21 +2,16 @@
 use mathlib.Core.Path.{_≡_, refl, sym, ap, _∙_}
 use mathlib.Core.Bool.{Bool, _&&_, not}
 use mathlib.Core.List.{List, [], _∷_}
-use Prim.Native.Nat.{ℕ, zero, suc, _+_, _-_, _*_, _≤_, _<_}
+use Prim.Native.Nat.{ℕ, zero, suc, _+_, _*_, _<_}
 use native.Mathlib.Nat.{mul-add, mul-zero}
 use native.Mathlib.Omega.{arith}
 use lib.Dec.{eqb}
-use lib.ListN.{length, getD, set}
+use lib.ListN.{length, getD}
 use borrow.Author.Tests.{eq-eqb, ne-eqb}
-use Rattle.finite.proofs.Sums.{sumBelow, sum-cong, sum-nothing, sum-add, sum-one, sum-set, when-zero, when-add}
+use Rattle.finite.proofs.Sums.{sumBelow, sum-cong, sum-nothing, sum-add, sum-one, when-zero, when-add}
 use Rattle.flow.specs.Network.{when, unitsAt, costOf, within, held, crossing}
 
 -- ---- the specification's sums by index
-
-pub unitsAt-sum : (es xs : List ℕ) (v : ℕ) → unitsAt es xs v ≡ sumBelow (length es) (λ a. when (eqb (getD es a 0) v) (getD xs a 0))
-unitsAt-sum [] xs v = refl
-unitsAt-sum (e ∷ es) [] v = sym (sum-nothing (suc (length es)) (λ a. when (eqb (getD (e ∷ es) a 0) v) 0) (λ a h. when-zero (eqb (getD (e ∷ es) a 0) v)))
-unitsAt-sum (e ∷ es) (x ∷ xs) v = omega (arith, unitsAt-sum es xs v)
 
 pub costOf-sum : (cs xs : List ℕ) → costOf cs xs ≡ sumBelow (length cs) (λ a. getD cs a 0 * getD xs a 0)
 costOf-sum [] xs = refl
@@ -41,28 +36,6 @@ crossing-sum s (t ∷ ts) (h ∷ hs) (x ∷ xs) (suc m) p q =
     omega (
       arith,
       crossing-sum s ts hs xs m (omega arith) (omega arith),
-    )
-
--- ---- one arc changed
-
-pub unitsAt-set : (es xs : List ℕ) (a w v : ℕ) → a < length es → a < length xs
-    → unitsAt es (set xs a w) v + when (eqb (getD es a 0) v) (getD xs a 0) ≡ unitsAt es xs v + when (eqb (getD es a 0) v) w
-unitsAt-set es xs a w v l m =
-    omega (arith, unitsAt-sum es xs v, unitsAt-sum es (set xs a w) v, sum-set (length es) (λ i x. when (eqb (getD es i 0) v) x) xs a w l m)
-
-pub unitsAt-more : (es xs : List ℕ) (a u v : ℕ) → a < length es → a < length xs
-    → unitsAt es (set xs a (getD xs a 0 + u)) v ≡ unitsAt es xs v + when (eqb (getD es a 0) v) u
-unitsAt-more es xs a u v l m = omega (arith, unitsAt-set es xs a (getD xs a 0 + u) v l m, when-add (eqb (getD es a 0) v) (getD xs a 0) u)
-
-pub unitsAt-fewer : (es xs : List ℕ) (a u v : ℕ) → a < length es → a < length xs → u ≤ getD xs a 0
-    → unitsAt es (set xs a (getD xs a 0 - u)) v + when (eqb (getD es a 0) v) u ≡ unitsAt es xs v
-unitsAt-fewer es xs a u v l m h =
-    let q : getD xs a 0 - u + u ≡ getD xs a 0 = omega arith in
-    omega (
-      arith,
-      unitsAt-set es xs a (getD xs a 0 - u) v l m,
-      when-add (eqb (getD es a 0) v) (getD xs a 0 - u) u,
-      ap (when (eqb (getD es a 0) v)) q,
     )
 
 -- ---- from nodes to arcs

@@ -4,9 +4,9 @@ use mathlib.Core.Logic.{_⊎_}
 use mathlib.Core.Bool.{Bool, true, false, _&&_, not}
 use mathlib.Core.List.{List, [], _∷_}
 use Prim.Native.Nat.{ℕ, zero, suc, _+_, _-_, _*_, _≤_, _<_}
-use lib.Dec.{eqb}
 use lib.ListN.{length, getD}
 pub use Rattle.finite.specs.Base.{when, total, smaller}
+pub use Rattle.residual.specs.Residual.{unitsAt}
 
 -- an upper bound that is none
 abbrev pub unbounded : ℕ
@@ -24,12 +24,6 @@ pub record Network : Type 0 where
 
 abbrev pub network : List ℕ → List ℕ → List ℕ → List ℕ → List ℕ → List ℕ → List ℕ → Network
 network ts hs ls us cs ss ds = record { tails = ts; heads = hs; lowers = ls; uppers = us; costs = cs; supplies = ss; demands = ds }
-
--- the units on the arcs whose end here is v
-abbrev pub unitsAt : List ℕ → List ℕ → ℕ → ℕ
-unitsAt [] xs v = 0
-unitsAt (e ∷ es) [] v = 0
-unitsAt (e ∷ es) (x ∷ xs) v = when (eqb e v) x + unitsAt es xs v
 
 abbrev pub costOf : List ℕ → List ℕ → ℕ
 costOf [] xs = 0

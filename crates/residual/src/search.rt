@@ -1,0 +1,262 @@
+//! The search from the sources along tight residual arcs, by a queue of the nodes reached.
+ghost use mathlib.Core.Path.{_≡_};
+ghost use Prim.Native.Nat.{_<_, _-_};
+ghost use lib.ListN.{length, getD};
+ghost use Rattle.residual.specs.Residual.{Tells, Alike, choose, residual, Shaped, Reach, Fresh};
+ghost use Rattle.residual.specs.Chains.{Chain, Chains, Workspace};
+ghost use Rattle.residual.specs.Searches.{Standing, Underway, Further, SpentAt, Done, Sought};
+use crate::arcs::NO_NODE;
+use crate::arcs::UNREACHED;
+use crate::arcs::end_of;
+use crate::arcs::is_ahead;
+use crate::arcs::is_tight;
+use crate::chains::enqueue_sources;
+
+// Whether two nodes with these marks are both reached, or neither.
+fn is_alike(m: u8, n: u8) -> bool
+    ensures { λ r. ⌜ Tells r (Alike m n) ⌝ }
+{
+    if m == UNREACHED {
+        if n == UNREACHED {
+            return true;
+        }
+        return false;
+    }
+    if n == UNREACHED {
+        return false;
+    }
+    true
+}
+
+// The head where a step up is open, else the tail where a step down is, else NO_NODE.
+fn pick(even: bool, up: bool, down: bool, tail: usize, head: usize) -> usize
+    ensures { λ r. ⌜ r ≡ choose even up down tail head ⌝ }
+{
+    if !even {
+        return NO_NODE;
+    }
+    if up {
+        return head;
+    }
+    if down {
+        return tail;
+    }
+    NO_NODE
+}
+
+// The node that arc a reaches anew, or NO_NODE.
+fn reached_by(
+    tails: &[u8],
+    heads: &[u8],
+    lowers: &[u16],
+    uppers: &[u16],
+    costs: &[u64],
+    x: &[u16],
+    pot: &[u64],
+    dist: &[u8],
+    a: usize,
+) -> usize
+    requires { ⌜ Shaped (residual (now tails) (now heads) (now lowers) (now uppers) (now costs) (now x) (now pot)) (length (now dist)) ⌝ }
+    requires { ⌜ a < length (now tails) ⌝ }
+    ensures { λ r. ⌜ Reach (residual (now (tails .entry)) (now (heads .entry)) (now (lowers .entry)) (now (uppers .entry)) (now (costs .entry)) (now (x .entry)) (now (pot .entry))) (now (dist .entry)) a r ⌝ }
+{
+    let t = end_of(tails, dist.len(), a);
+    let h = end_of(heads, dist.len(), a);
+    if is_alike(dist[t], dist[h]) {
+        return NO_NODE;
+    }
+    let even = is_tight(costs[a], pot[t], pot[h]);
+    let up = is_ahead(dist[t], dist[h], x[a], uppers[a]);
+    let down = is_ahead(dist[h], dist[t], lowers[a], x[a]);
+    pick(even, up, down, t, h)
+}
+
+// The node in place i of the queue.
+fn node_at(queue: &[u8], i: usize) -> usize
+    requires { ⌜ i < length (now queue) ⌝ }
+    ensures { λ r. ⌜ r ≡ getD (now (queue .entry)) i 0 ⌝ }
+{
+    queue[i] as usize
+}
+
+// Marks each new node that an arc from `from` on leads to from u, where u is its end in `ends`, notes the arc and puts the node into the queue, until one is wanted; how many nodes then stand there.
+fn fan(
+    tails: &[u8],
+    heads: &[u8],
+    lowers: &[u16],
+    uppers: &[u16],
+    costs: &[u64],
+    x: &[u16],
+    pot: &[u64],
+    from: usize,
+    dist: &mut [u8],
+    via: &mut [u16],
+    queue: &mut [u8],
+    wanted: &[u16],
+    ends: &[u8],
+    last: &[u16],
+    before: &[u16],
+    u: usize,
+    count: usize,
+) -> usize
+    requires { ⌜ Shaped (residual (now tails) (now heads) (now lowers) (now uppers) (now costs) (now x) (now pot)) (length (now dist)) ⌝ }
+    requires { ⌜ length (now wanted) ≡ length (now dist) ⌝ }
+    requires { ⌜ Chain (now ends) (length (now dist)) (now last) (now before) ⌝ }
+    requires { ⌜ length (now ends) ≡ length (now tails) ⌝ }
+    requires { ⌜ Standing (now dist) u ⌝ }
+    requires { ⌜ Underway (residual (now tails) (now heads) (now lowers) (now uppers) (now costs) (now x) (now pot)) from count (now dist) (now via) (now queue) ⌝ }
+    ensures { λ n. ⌜ Further (residual (now (tails .entry)) (now (heads .entry)) (now (lowers .entry)) (now (uppers .entry)) (now (costs .entry)) (now (x .entry)) (now (pot .entry))) from count (now (dist .entry)) (now (queue .entry)) n (now (dist .exit)) (now (via .exit)) (now (queue .exit)) ⌝ }
+    ensures { λ n. ⌜ (getD (now (wanted .entry)) (getD (now (queue .exit)) (n - 1) 0) 0 ≡ 0 → SpentAt (residual (now (tails .entry)) (now (heads .entry)) (now (lowers .entry)) (now (uppers .entry)) (now (costs .entry)) (now (x .entry)) (now (pot .entry))) from (now (ends .entry)) (now (dist .exit)) u) ⌝ }
+{
+    let mut next = count;
+    let mut at = last[u] as usize;
+    while at > from {
+        let a = at - 1;
+        let v = reached_by(tails, heads, lowers, uppers, costs, x, pot, dist, a);
+        if v < NO_NODE {
+            dist[v] = next as u8;
+            via[v] = a as u16;
+            queue[next] = v as u8;
+            next += 1;
+            if wanted[v] > 0 {
+                return next;
+            }
+        }
+        at = before[a] as usize;
+    }
+    next
+}
+
+// Marks each new node that an arc from `from` on leads to from u, until one is wanted; how many nodes then stand in the queue.
+fn visit(
+    tails: &[u8],
+    heads: &[u8],
+    lowers: &[u16],
+    uppers: &[u16],
+    costs: &[u64],
+    x: &[u16],
+    pot: &[u64],
+    from: usize,
+    dist: &mut [u8],
+    via: &mut [u16],
+    queue: &mut [u8],
+    wanted: &[u16],
+    outs: &[u16],
+    outlinks: &[u16],
+    ins: &[u16],
+    inlinks: &[u16],
+    u: usize,
+    count: usize,
+) -> usize
+    requires { ⌜ Shaped (residual (now tails) (now heads) (now lowers) (now uppers) (now costs) (now x) (now pot)) (length (now dist)) ⌝ }
+    requires { ⌜ length (now wanted) ≡ length (now dist) ⌝ }
+    requires { ⌜ Chains (now tails) (now heads) (length (now dist)) (now outs) (now outlinks) (now ins) (now inlinks) ⌝ }
+    requires { ⌜ Standing (now dist) u ⌝ }
+    requires { ⌜ Underway (residual (now tails) (now heads) (now lowers) (now uppers) (now costs) (now x) (now pot)) from count (now dist) (now via) (now queue) ⌝ }
+    ensures { λ n. ⌜ Further (residual (now (tails .entry)) (now (heads .entry)) (now (lowers .entry)) (now (uppers .entry)) (now (costs .entry)) (now (x .entry)) (now (pot .entry))) from count (now (dist .entry)) (now (queue .entry)) n (now (dist .exit)) (now (via .exit)) (now (queue .exit)) ⌝ }
+    ensures { λ n. ⌜ (getD (now (wanted .entry)) (getD (now (queue .exit)) (n - 1) 0) 0 ≡ 0 → Done (residual (now (tails .entry)) (now (heads .entry)) (now (lowers .entry)) (now (uppers .entry)) (now (costs .entry)) (now (x .entry)) (now (pot .entry))) from (now (dist .exit)) u) ⌝ }
+{
+    let next = fan(
+        tails,
+        heads,
+        lowers,
+        uppers,
+        costs,
+        x,
+        pot,
+        from,
+        dist,
+        via,
+        queue,
+        wanted,
+        tails,
+        outs,
+        outlinks,
+        u,
+        count,
+    );
+    let newest = node_at(queue, next - 1);
+    if wanted[newest] > 0 {
+        return next;
+    }
+    fan(
+        tails,
+        heads,
+        lowers,
+        uppers,
+        costs,
+        x,
+        pot,
+        from,
+        dist,
+        via,
+        queue,
+        wanted,
+        heads,
+        ins,
+        inlinks,
+        u,
+        next,
+    )
+}
+
+// Marks the nodes that tight residual arcs from `from` on lead to from the sources, each above the node it is reached from, and notes the arcs, until a wanted node is reached: that node, or NO_NODE if all are marked and none is wanted.
+pub fn search(
+    tails: &[u8],
+    heads: &[u8],
+    lowers: &[u16],
+    uppers: &[u16],
+    costs: &[u64],
+    x: &[u16],
+    pot: &[u64],
+    from: usize,
+    dist: &mut [u8],
+    via: &mut [u16],
+    queue: &mut [u8],
+    wanted: &[u16],
+    outs: &[u16],
+    outlinks: &[u16],
+    ins: &[u16],
+    inlinks: &[u16],
+) -> usize
+    requires { ⌜ Shaped (residual (now tails) (now heads) (now lowers) (now uppers) (now costs) (now x) (now pot)) (length (now dist)) ⌝ }
+    requires { ⌜ Workspace (now tails) (now heads) (length (now dist)) (now dist) (now via) (now queue) (now outs) (now outlinks) (now ins) (now inlinks) ⌝ }
+    requires { ⌜ length (now wanted) ≡ length (now dist) ⌝ }
+    requires { ⌜ Fresh (now dist) ⌝ }
+    ensures { λ v. ⌜ Sought (residual (now (tails .entry)) (now (heads .entry)) (now (lowers .entry)) (now (uppers .entry)) (now (costs .entry)) (now (x .entry)) (now (pot .entry))) from (now (dist .entry)) (now (wanted .entry)) (now (dist .exit)) (now (via .exit)) v ⌝ }
+{
+    let mut count = enqueue_sources(dist, queue);
+    let mut next = 0;
+    while next < count {
+        let u = node_at(queue, next);
+        if wanted[u] > 0 {
+            return u;
+        }
+        count = visit(
+            tails,
+            heads,
+            lowers,
+            uppers,
+            costs,
+            x,
+            pot,
+            from,
+            dist,
+            via,
+            queue,
+            wanted,
+            outs,
+            outlinks,
+            ins,
+            inlinks,
+            u,
+            count,
+        );
+        let newest = node_at(queue, count - 1);
+        if wanted[newest] > 0 {
+            return newest;
+        }
+        next += 1;
+    }
+    NO_NODE
+}
