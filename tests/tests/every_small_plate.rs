@@ -2,9 +2,12 @@
 
 use plates_tests::cancelling;
 use plates_tests::compare;
+use plates_tests::files::Solver;
 use plates_tests::files::{list_bytes, read_list, shape_bytes};
-use plates_tests::plate::Plate;
+use plates_tests::plate::{Plate, Shape};
 use plates_tests::{long_mode, search};
+use std::cell::RefCell;
+use std::collections::HashMap;
 
 /// How many plates were compared.
 #[derive(Debug, Default)]
@@ -99,29 +102,51 @@ fn permutations(items: &[usize]) -> Vec<Vec<usize>> {
     all
 }
 
+thread_local! {
+    /// Shapes found of late, by the plate with the lowest dart of each post first.
+    static FOUND: RefCell<HashMap<String, Shape>> = RefCell::new(HashMap::new());
+}
+
+/// The best shape, searched for once for all starting darts of the orders: it
+/// does not depend on them.
+fn best_of_cyclic(plate: &Plate) -> Shape {
+    let mut turned = plate.clone();
+    for around in &mut turned.order {
+        let lowest = (0..around.len()).min_by_key(|&place| around[place]);
+        around.rotate_left(lowest.unwrap_or(0));
+    }
+    FOUND.with_borrow_mut(|found| {
+        if found.len() > 10_000 {
+            found.clear();
+        }
+        let shape = found.entry(format!("{turned:?}"));
+        shape.or_insert_with(|| search::best(&turned)).clone()
+    })
+}
+
 /// Compares one plate; on a few of them also verdict, listing and other
 /// lengths of lent memory.
-fn compare_plate(plate: &Plate, counts: &mut Counts) {
+fn compare_plate(plate: &Plate, best: Solver, counts: &mut Counts) {
     let list = list_bytes(plate, 0x1234, None);
-    if compare::shaping_longer(&list, search::best) != 0 {
+    if compare::shaping_longer(&list, best) != 0 {
         counts.refused += 1;
         return;
     }
     counts.accepted += 1;
     if counts.accepted % 16 == 0 {
         let read = read_list(&list).expect("the list was accepted");
-        for shape in [search::best(plate), cancelling::any(plate)] {
-            compare::checking(&list, &shape_bytes(&read, &shape), search::best);
+        for shape in [best(plate), cancelling::any(plate)] {
+            compare::checking(&list, &shape_bytes(&read, &shape), best);
         }
-        compare::shaping(&list, search::best);
-        compare::listing(&list, search::best);
+        compare::shaping(&list, best);
+        compare::listing(&list, best);
     }
 }
 
-fn compare_all(strips: usize, orders: Orders) {
+fn compare_all(strips: usize, best: Solver) {
     let mut counts = Counts::default();
-    each_plate(strips, orders, &mut |plate| {
-        compare_plate(plate, &mut counts)
+    each_plate(strips, Orders::All, &mut |plate| {
+        compare_plate(plate, best, &mut counts)
     });
     println!("{strips} strips: {counts:?}");
     assert!(counts.accepted > 0);
@@ -129,24 +154,24 @@ fn compare_all(strips: usize, orders: Orders) {
 
 #[test]
 fn every_plate_with_one_strip() {
-    compare_all(1, Orders::All);
+    compare_all(1, search::best);
 }
 
 #[test]
 fn every_plate_with_two_strips() {
-    compare_all(2, Orders::All);
+    compare_all(2, search::best);
 }
 
 #[test]
 fn every_plate_with_three_strips() {
-    compare_all(3, Orders::All);
+    compare_all(3, search::best);
 }
 
 /// In the long mode only.
 #[test]
 fn every_plate_with_four_strips() {
     if long_mode() {
-        compare_all(4, Orders::Cyclic);
+        compare_all(4, best_of_cyclic);
     }
 }
 
