@@ -10,9 +10,9 @@ use native.Mathlib.Omega.{arith}
 use lib.ListN.{length, getD, set, length-set}
 use lib.Seq.{getD-set-same, getD-set-other}
 use Rattle.finite.proofs.Sums.{sumBelow, when-most, sum-cong, sum-le, sum-lt, sum-set, total-sum}
-use Rattle.residual.specs.Residual.{Residual, residual, reached, unreached, Opens, ShutAt, Passed, Searched, Walkable, Walked, Pushed, Balanced}
+use Rattle.residual.specs.Residual.{Residual, residual, reached, unreached, Opens, ShutAt, Searched, Walkable, Walked, Pushed, Balanced}
 use Rattle.residual.proofs.Sources.{single-fresh}
-use Rattle.residual.proofs.Passes.{pass-start, pass-over, pass-reach, pass-join, pass-last, fresh-ranked}
+use Rattle.residual.proofs.Passes.{Passed, pass-start, pass-over, pass-reach, pass-join, pass-last, fresh-ranked}
 use Rattle.residual.proofs.Walks.{walk-start, step-walks, pushed}
 use Rattle.flow.specs.Network.{Network, Flow, Sound, total, unitsAt, when, within, crossing, excess, excessAt, excessFrom}
 use Rattle.flow.specs.Solver.{Single, Bounded}

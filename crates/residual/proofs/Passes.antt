@@ -10,7 +10,7 @@ use borrow.Author.Tests.{le-leb, lt-leb}
 use borrow.Author.Count.{below-more}
 use lib.ListN.{length, getD, set, length-set}
 use lib.Seq.{getD-set-same, getD-set-other}
-use Rattle.residual.specs.Residual.{Residual, Opens, ShutAt, Link, Enters, Tree, Ranked, Passed, Fresh, Searched, tailOf, headOf, unreached, reached}
+use Rattle.residual.specs.Residual.{Residual, Opens, ShutAt, Link, Enters, Tree, Ranked, Fresh, Searched, tailOf, headOf, unreached, reached}
 
 -- a node that is marked is one less to reach
 pub unreached-set : (d : List ℕ) (i m : ℕ) → i < length d → 255 ≤ getD d i 0 → m < 255 → unreached (set d i m) + 1 ≡ unreached d
@@ -89,6 +89,17 @@ module _ (r : Residual) (from a rank v : ℕ) (dist via : List ℕ) (late : from
         room = omega (arith, unreached-set dist v rank (o .node) (o .new) (mark-left dist v rank (o .node) (o .new) (k .room)), k .room);
         first = omega arith;
       }
+
+-- what a pass over the arcs from `from` to `upto` makes of rank₀ and dist₀
+pub record Passed (r : Residual) (from upto rank₀ : ℕ) (dist₀ : List ℕ) (rank : ℕ) (dist via : List ℕ) : Type 0 where
+  pub ranked : Ranked r from rank dist via
+  pub long : length dist ≡ length dist₀
+  pub via-long : length via ≡ length dist₀
+  pub keeps : (v : ℕ) → getD dist₀ v 0 ≡ 0 → getD dist v 0 ≡ 0
+  pub adds-none : (v : ℕ) → getD dist v 0 ≡ 0 → getD dist₀ v 0 ≡ 0
+  pub more : rank₀ ≤ rank
+  pub count : rank + unreached dist ≡ rank₀ + unreached dist₀
+  pub shut : rank ≡ rank₀ → (a : ℕ) → from ≤ a → a < upto → ShutAt r dist a
 
 module _ (r : Residual) (from rank₀ : ℕ) (dist₀ : List ℕ) where
   pub pass-start : (via : List ℕ) → length via ≡ length dist₀ → Ranked r from rank₀ dist₀ via → Passed r from from rank₀ dist₀ rank₀ dist₀ via

@@ -73,6 +73,16 @@ pub record Alike (m n : ℕ) : Type 0 where
   pub on : m < 255 → n < 255
   pub back : n < 255 → m < 255
 
+-- room for a step on from a tail with this mark, or, where the tail is not reached, back to it
+pub record Roomy (mark units lower upper : ℕ) : Type 0 where
+  pub on : mark < 255 → units < upper
+  pub back : 255 ≤ mark → lower < units
+
+-- the end that such a step leads to
+pub record Far (mark tail head v : ℕ) : Type 0 where
+  pub on : mark < 255 → v ≡ head
+  pub back : 255 ≤ mark → v ≡ tail
+
 -- a step from a reached node to one that is not, over what is left between two bounds
 pub record Ahead (near far low high : ℕ) : Type 0 where
   pub near-in : near < 255
@@ -113,12 +123,6 @@ pub record ShutAt (r : Residual) (dist : List ℕ) (a : ℕ) : Type 0 where
   pub up : tight r a → reached dist (tailOf r a) → canUp r a → reached dist (headOf r a)
   pub down : tight r a → reached dist (headOf r a) → canDown r a → reached dist (tailOf r a)
 
-abbrev pub choose : Bool → Bool → Bool → ℕ → ℕ → ℕ
-choose false up down t h = 255
-choose true true down t h = h
-choose true false true t h = t
-choose true false false t h = 255
-
 -- what arc a reaches: a new node v, or from 255 on none
 pub record Reach (r : Residual) (dist : List ℕ) (a v : ℕ) : Type 0 where
   pub none : 255 ≤ v → ShutAt r dist a
@@ -130,17 +134,6 @@ pub record Ranked (r : Residual) (from rank : ℕ) (dist via : List ℕ) : Type 
   pub below : (v : ℕ) → reached dist v → getD dist v 0 < rank
   pub room : rank + unreached dist ≤ 255
   pub first : 0 < rank
-
--- what a pass over the arcs from `from` to `upto` makes of rank₀ and dist₀
-pub record Passed (r : Residual) (from upto rank₀ : ℕ) (dist₀ : List ℕ) (rank : ℕ) (dist via : List ℕ) : Type 0 where
-  pub ranked : Ranked r from rank dist via
-  pub long : length dist ≡ length dist₀
-  pub via-long : length via ≡ length dist₀
-  pub keeps : (v : ℕ) → getD dist₀ v 0 ≡ 0 → getD dist v 0 ≡ 0
-  pub adds-none : (v : ℕ) → getD dist v 0 ≡ 0 → getD dist₀ v 0 ≡ 0
-  pub more : rank₀ ≤ rank
-  pub count : rank + unreached dist ≡ rank₀ + unreached dist₀
-  pub shut : rank ≡ rank₀ → (a : ℕ) → from ≤ a → a < upto → ShutAt r dist a
 
 -- the marks before a search: 0 at the sources and 255 elsewhere, with a source among at most 255 nodes
 pub record Fresh (dist : List ℕ) : Type 0 where

@@ -2,13 +2,12 @@
 ghost use mathlib.Core.Path.{_≡_};
 ghost use Prim.Native.Nat.{_<_, _-_};
 ghost use lib.ListN.{length, getD};
-ghost use Rattle.residual.specs.Residual.{Tells, Alike, choose, residual, Shaped, Reach, Fresh};
+ghost use Rattle.residual.specs.Residual.{Tells, Alike, Roomy, Far, residual, Shaped, Reach, Fresh};
 ghost use Rattle.residual.specs.Chains.{Chain, Chains, Workspace};
 ghost use Rattle.residual.specs.Searches.{Standing, Underway, Further, SpentAt, Done, Sought};
 use crate::arcs::NO_NODE;
 use crate::arcs::UNREACHED;
 use crate::arcs::end_of;
-use crate::arcs::is_ahead;
 use crate::arcs::is_tight;
 use crate::chains::enqueue_sources;
 
@@ -28,20 +27,30 @@ fn is_alike(m: u8, n: u8) -> bool
     true
 }
 
-// The head where a step up is open, else the tail where a step down is, else NO_NODE.
-fn pick(even: bool, up: bool, down: bool, tail: usize, head: usize) -> usize
-    ensures { λ r. ⌜ r ≡ choose even up down tail head ⌝ }
+// Whether there is room for a step on from a tail with this mark, or, where the tail is not reached, back to it.
+fn has_room(mark: u8, units: u16, lower: u16, upper: u16) -> bool
+    ensures { λ r. ⌜ Tells r (Roomy mark units lower upper) ⌝ }
 {
-    if !even {
-        return NO_NODE;
+    if mark == UNREACHED {
+        if units <= lower {
+            return false;
+        }
+        return true;
     }
-    if up {
-        return head;
+    if upper <= units {
+        return false;
     }
-    if down {
+    true
+}
+
+// The head where the tail has the mark of a reached node, else the tail.
+fn far_end(mark: u8, tail: usize, head: usize) -> usize
+    ensures { λ r. ⌜ Far mark tail head r ⌝ }
+{
+    if mark == UNREACHED {
         return tail;
     }
-    NO_NODE
+    head
 }
 
 // The node that arc a reaches anew, or NO_NODE.
@@ -65,10 +74,13 @@ fn reached_by(
     if is_alike(dist[t], dist[h]) {
         return NO_NODE;
     }
-    let even = is_tight(costs[a], pot[t], pot[h]);
-    let up = is_ahead(dist[t], dist[h], x[a], uppers[a]);
-    let down = is_ahead(dist[h], dist[t], lowers[a], x[a]);
-    pick(even, up, down, t, h)
+    if !has_room(dist[t], x[a], lowers[a], uppers[a]) {
+        return NO_NODE;
+    }
+    if !is_tight(costs[a], pot[t], pot[h]) {
+        return NO_NODE;
+    }
+    far_end(dist[t], t, h)
 }
 
 // The node in place i of the queue.

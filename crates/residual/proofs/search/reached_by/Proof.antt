@@ -1,14 +1,22 @@
--- `reached_by`: the tests on the arc tell what it reaches.
-use mathlib.Core.Path.{subst}
-use mathlib.Core.Bool.{Bool}
+-- `reached_by`: each test that fails tells that nothing new is reached; where all hold, the far end is new.
+use mathlib.Core.Path.{_≡_, subst}
+use mathlib.Core.Bool.{Bool, true, false}
 use native.Mathlib.Omega.{arith}
 use denote.Ref.{now}
-use lib.ListN.{getD}
-use Rattle.residual.specs.Residual.{residual, Tells, Alike}
-use Rattle.residual.proofs.Steps.{reach, reach-alike}
+use borrow.Author.Tests.{not-true, not-false}
+use Rattle.residual.specs.Residual.{residual, Tells}
+use Rattle.residual.proofs.Steps.{reach-alike, reach-full, reach-loose, reach-new}
+use borrow.Author.Needs.{needs}
 use borrow.Author.Needs.{needs}
 use Rattle.residual.proofs.search.reached_by.Statement.{statement}
 use Rattle.residual.proofs.search.reached_by.Tie as tie
+
+-- a test's answer tells whether its fact holds
+told : (fact : Type 0) (b : Bool) → Tells b fact → b ≡ true → fact
+told fact b t e = subst (λ (b : Bool). Tells b fact) e t
+
+untold : (fact : Type 0) (b : Bool) → Tells b fact → b ≡ false → fact → ⊥
+untold fact b t e = subst (λ (b : Bool). Tells b fact) e t
 
 end-of-requires : tie.Need-end-of-requires
 end-of-requires c κs = search needs
@@ -32,18 +40,39 @@ returns c =
     let t = c .before .before .before .before .before in
     let h = c .before .before .before .before in
     let s = c .before .before .before .before .before .before .before .before .before .before .before .before .before .before in
-    let both = subst (λ (b : Bool). Tells b (Alike (getD (now (s .args .dist)) (t .end-of .result) 0) (getD (now (s .args .dist)) (h .end-of2 .result) 0))) (c .if1 .taken) (c .before .is-alike .ensures) in
-    reach-alike
-    (residual (now (s .args .tails)) (now (s .args .heads)) (now (s .args .lowers)) (now (s .args .uppers)) (now (s .args .costs)) (now (s .args .x)) (now (s .args .pot)))
-    (now (s .args .dist))
-    (s .args .a)
-    (s .pre .0)
-    (s .pre .1)
-    (t .end-of .result)
-    (h .end-of2 .result)
-    (t .end-of .ensures .0)
-    (h .end-of2 .ensures .0)
-    both
+    reach-alike (residual (now (s .args .tails)) (now (s .args .heads)) (now (s .args .lowers)) (now (s .args .uppers)) (now (s .args .costs)) (now (s .args .x)) (now (s .args .pot))) (now (s .args .dist)) (s .args .a) (s .pre .0) (s .pre .1) (t .end-of .result) (h .end-of2 .result) (t .end-of .ensures .0) (h .end-of2 .ensures .0) (told _ (c .before .is-alike .result) (c .before .is-alike .ensures) (c .if1 .taken))
+
+shared-slice-read-has-room : tie.Need-shared-slice-read-has-room
+shared-slice-read-has-room c = search needs
+
+mul-has-room : tie.Need-mul-has-room
+mul-has-room c = search needs
+
+shared-slice-read-has-room-2 : tie.Need-shared-slice-read-has-room-2
+shared-slice-read-has-room-2 c = search needs
+
+mul-has-room-2 : tie.Need-mul-has-room-2
+mul-has-room-2 c = search needs
+
+shared-slice-read-has-room-3 : tie.Need-shared-slice-read-has-room-3
+shared-slice-read-has-room-3 c = search needs
+
+mul-has-room-3 : tie.Need-mul-has-room-3
+mul-has-room-3 c = search needs
+
+shared-slice-read-has-room-4 : tie.Need-shared-slice-read-has-room-4
+shared-slice-read-has-room-4 c = search needs
+
+has-room-requires : tie.Need-has-room-requires
+has-room-requires c κs = search needs
+
+returns-2 : tie.Need-returns-2
+returns-2 c =
+    let t = c .before .before .before .before .before .before .before .before .before .before .before in
+    let h = c .before .before .before .before .before .before .before .before .before .before in
+    let s = c .before .before .before .before .before .before .before .before .before .before .before .before .before .before .before .before .before .before .before .before in
+    let f = c .before .has-room in
+    reach-full (residual (now (s .args .tails)) (now (s .args .heads)) (now (s .args .lowers)) (now (s .args .uppers)) (now (s .args .costs)) (now (s .args .x)) (now (s .args .pot))) (now (s .args .dist)) (s .args .a) (s .pre .0) (s .pre .1) (t .end-of .result) (h .end-of2 .result) (t .end-of .ensures .0) (h .end-of2 .ensures .0) (untold _ (f .result) (f .ensures) (not-true (f .result) (c .if2 .taken)))
 
 mul-is-tight : tie.Need-mul-is-tight
 mul-is-tight c = search needs
@@ -66,77 +95,29 @@ shared-slice-read-is-tight-3 c = search needs
 is-tight-requires : tie.Need-is-tight-requires
 is-tight-requires c κs = search needs
 
-shared-slice-read-is-ahead : tie.Need-shared-slice-read-is-ahead
-shared-slice-read-is-ahead c = search needs
+returns-3 : tie.Need-returns-3
+returns-3 c =
+    let t = c .before .before .before .before .before .before .before .before .before .before .before .before .before .before .before .before in
+    let h = c .before .before .before .before .before .before .before .before .before .before .before .before .before .before .before in
+    let s = c .before .before .before .before .before .before .before .before .before .before .before .before .before .before .before .before .before .before .before .before .before .before .before .before .before in
+    let f = c .before .is-tight in
+    reach-loose (residual (now (s .args .tails)) (now (s .args .heads)) (now (s .args .lowers)) (now (s .args .uppers)) (now (s .args .costs)) (now (s .args .x)) (now (s .args .pot))) (now (s .args .dist)) (s .args .a) (s .pre .0) (s .pre .1) (t .end-of .result) (h .end-of2 .result) (t .end-of .ensures .0) (h .end-of2 .ensures .0) (untold _ (f .result) (f .ensures) (not-true (f .result) (c .if3 .taken)))
 
-shared-slice-read-is-ahead-2 : tie.Need-shared-slice-read-is-ahead-2
-shared-slice-read-is-ahead-2 c = search needs
+shared-slice-read-far-end : tie.Need-shared-slice-read-far-end
+shared-slice-read-far-end c = search needs
 
-mul-is-ahead : tie.Need-mul-is-ahead
-mul-is-ahead c = search needs
+far-end-requires : tie.Need-far-end-requires
+far-end-requires c κs = search needs
 
-shared-slice-read-is-ahead-3 : tie.Need-shared-slice-read-is-ahead-3
-shared-slice-read-is-ahead-3 c = search needs
-
-mul-is-ahead-2 : tie.Need-mul-is-ahead-2
-mul-is-ahead-2 c = search needs
-
-shared-slice-read-is-ahead-4 : tie.Need-shared-slice-read-is-ahead-4
-shared-slice-read-is-ahead-4 c = search needs
-
-is-ahead-requires : tie.Need-is-ahead-requires
-is-ahead-requires c κs = search needs
-
-shared-slice-read-is-ahead-5 : tie.Need-shared-slice-read-is-ahead-5
-shared-slice-read-is-ahead-5 c = search needs
-
-shared-slice-read-is-ahead-6 : tie.Need-shared-slice-read-is-ahead-6
-shared-slice-read-is-ahead-6 c = search needs
-
-mul-is-ahead-3 : tie.Need-mul-is-ahead-3
-mul-is-ahead-3 c = search needs
-
-shared-slice-read-is-ahead-7 : tie.Need-shared-slice-read-is-ahead-7
-shared-slice-read-is-ahead-7 c = search needs
-
-mul-is-ahead-4 : tie.Need-mul-is-ahead-4
-mul-is-ahead-4 c = search needs
-
-shared-slice-read-is-ahead-8 : tie.Need-shared-slice-read-is-ahead-8
-shared-slice-read-is-ahead-8 c = search needs
-
-is-ahead-requires-2 : tie.Need-is-ahead-requires-2
-is-ahead-requires-2 c κs = search needs
-
-pick-requires : tie.Need-pick-requires
-pick-requires c κs = search needs
-
-returns-2 : tie.Need-returns-2
-returns-2 c =
-    let down = c .before in
-    let up = c .before .before .before .before .before .before in
-    let even = c .before .before .before .before .before .before .before .before .before .before .before in
-    let h = c .before .before .before .before .before .before .before .before .before .before .before .before .before .before .before .before .before .before .before in
-    let t = c .before .before .before .before .before .before .before .before .before .before .before .before .before .before .before .before .before .before .before .before in
-    let s = c .before .before .before .before .before .before .before .before .before .before .before .before .before .before .before .before .before .before .before .before .before .before .before .before .before .before .before .before .before in
-    reach
-    (residual (now (s .args .tails)) (now (s .args .heads)) (now (s .args .lowers)) (now (s .args .uppers)) (now (s .args .costs)) (now (s .args .x)) (now (s .args .pot)))
-    (now (s .args .dist))
-    (s .args .a)
-    (s .pre .0)
-    (s .pre .1)
-    (t .end-of .result)
-    (h .end-of2 .result)
-    (c .pick .result)
-    (t .end-of .ensures .0)
-    (h .end-of2 .ensures .0)
-    (even .is-tight .result)
-    (up .is-ahead .result)
-    (down .is-ahead2 .result)
-    (even .is-tight .ensures)
-    (up .is-ahead .ensures)
-    (down .is-ahead2 .ensures)
-    (c .pick .ensures)
+returns-4 : tie.Need-returns-4
+returns-4 c =
+    let t = c .before .before .before .before .before .before .before .before .before .before .before .before .before .before .before .before .before .before in
+    let h = c .before .before .before .before .before .before .before .before .before .before .before .before .before .before .before .before .before in
+    let s = c .before .before .before .before .before .before .before .before .before .before .before .before .before .before .before .before .before .before .before .before .before .before .before .before .before .before .before in
+    let i = c .before .before .before .before .before .before .before .before .before .before .before .before .before .before .is-alike in
+    let f = c .before .before .before .before .before .before .before .before .has-room in
+    let e = c .before .before .before .is-tight in
+    reach-new (residual (now (s .args .tails)) (now (s .args .heads)) (now (s .args .lowers)) (now (s .args .uppers)) (now (s .args .costs)) (now (s .args .x)) (now (s .args .pot))) (now (s .args .dist)) (s .args .a) (s .pre .0) (s .pre .1) (t .end-of .result) (h .end-of2 .result) (t .end-of .ensures .0) (h .end-of2 .ensures .0) (untold _ (i .result) (i .ensures) (c .before .before .before .before .before .before .before .before .before .before .before .before .before .if1 .left)) (told _ (f .result) (f .ensures) (not-false (f .result) (c .before .before .before .before .before .before .before .if2 .left))) (told _ (e .result) (e .ensures) (not-false (e .result) (c .before .before .if3 .left))) (c .far-end .result) (c .far-end .ensures)
 
 pub reached-by-spec : {M : Type 1} → statement M
 reached-by-spec =
@@ -148,6 +129,15 @@ reached-by-spec =
     shared-slice-read-is-alike-2
     is-alike-requires
     returns
+    shared-slice-read-has-room
+    mul-has-room
+    shared-slice-read-has-room-2
+    mul-has-room-2
+    shared-slice-read-has-room-3
+    mul-has-room-3
+    shared-slice-read-has-room-4
+    has-room-requires
+    returns-2
     mul-is-tight
     shared-slice-read-is-tight
     mul-is-tight-2
@@ -155,19 +145,7 @@ reached-by-spec =
     mul-is-tight-3
     shared-slice-read-is-tight-3
     is-tight-requires
-    shared-slice-read-is-ahead
-    shared-slice-read-is-ahead-2
-    mul-is-ahead
-    shared-slice-read-is-ahead-3
-    mul-is-ahead-2
-    shared-slice-read-is-ahead-4
-    is-ahead-requires
-    shared-slice-read-is-ahead-5
-    shared-slice-read-is-ahead-6
-    mul-is-ahead-3
-    shared-slice-read-is-ahead-7
-    mul-is-ahead-4
-    shared-slice-read-is-ahead-8
-    is-ahead-requires-2
-    pick-requires
-    returns-2)
+    returns-3
+    shared-slice-read-far-end
+    far-end-requires
+    returns-4)
