@@ -19,6 +19,10 @@ pub const FAMILIES: [&str; 4] = ["grid", "tree", "path", "double"];
 /// The first three seeds that give 64 posts and 113 to 117 strips.
 const SEEDS: [u64; 3] = [207, 800, 1782];
 
+/// The seed of the slowest plate among those with 50 posts or more of the seeds
+/// below 20,000.
+const SLOW: u64 = 11552;
+
 /// All plates, in the order of the table.
 pub fn all() -> Vec<Named> {
     let mut all = Vec::new();
@@ -34,6 +38,8 @@ pub fn all() -> Vec<Named> {
         assert!((113..=117).contains(&plate.strips.len()));
         all.push(named("random", number, plate));
     }
+    let plate = plane_plate(64, &mut Random::new(SLOW));
+    all.push(named("slow", plate.posts, plate));
     all
 }
 
