@@ -7,6 +7,7 @@
 //! - [`cancelling`]: the best shape of any plate by cancelling cycles.
 //! - [`certificate`]: whether a given shape is the best one.
 //! - [`random`]: random plates from a seed.
+//! - [`remembered`]: best shapes found once for many lists of one plate.
 //! - [`compare`]: one call of the library against this implementation.
 //!
 //! `cargo test --release` runs the default mode, in seconds; with the variable
@@ -19,6 +20,7 @@ pub mod compare;
 pub mod files;
 pub mod plate;
 pub mod random;
+pub mod remembered;
 pub mod search;
 
 /// Whether the longer runs were asked for.

@@ -5,6 +5,7 @@ use plates_tests::compare;
 use plates_tests::files::{read_list, shape_bytes};
 use plates_tests::long_mode;
 use plates_tests::random::{list_of, plane_plate, Random};
+use plates_tests::remembered::cancel_once;
 
 /// The fields of a sound file, each with its tag and length.
 fn split_fields(file: &[u8]) -> Vec<Vec<u8>> {
@@ -21,8 +22,17 @@ fn split_fields(file: &[u8]) -> Vec<Vec<u8>> {
 /// Calls `visit` with each damaged form of a sound file.
 fn each_damaged(file: &[u8], random: &mut Random, visit: &mut dyn FnMut(&[u8])) {
     changed_bytes(file, random, visit);
-    (0..file.len()).for_each(|length| visit(&file[..length]));
     changed_lengths(file, visit);
+    cut_and_mixed(file, visit);
+    for more in 1..=4 {
+        visit(&[file, &random.bytes(more)].concat());
+    }
+}
+
+/// The file cut at each length, with two fields exchanged, one field doubled,
+/// and one left out.
+fn cut_and_mixed(file: &[u8], visit: &mut dyn FnMut(&[u8])) {
+    (0..file.len()).for_each(|length| visit(&file[..length]));
     let fields = split_fields(file);
     for a in 0..fields.len() {
         let mut without = fields.clone();
@@ -36,8 +46,15 @@ fn each_damaged(file: &[u8], random: &mut Random, visit: &mut dyn FnMut(&[u8])) 
             visit(&reordered.concat());
         }
     }
-    for more in 1..=4 {
-        visit(&[file, &random.bytes(more)].concat());
+}
+
+/// Each byte changed to one other value.
+fn changed_once(file: &[u8], random: &mut Random, visit: &mut dyn FnMut(&[u8])) {
+    let mut damaged = file.to_vec();
+    for place in 0..file.len() {
+        damaged[place] ^= 1 + random.below(255) as u8;
+        visit(&damaged);
+        damaged[place] = file[place];
     }
 }
 
@@ -153,6 +170,31 @@ fn damaged_lists_with_shapes() {
         });
     }
     print_numbers("damaged lists with shapes", &numbers);
+}
+
+/// The random plates that `random_plates.rs` compares: the list and its best
+/// shape with each byte changed, cut at each length, with fields exchanged,
+/// doubled and left out.
+#[test]
+fn every_random_plate_damaged() {
+    let mut numbers = Numbers::default();
+    for seed in 0..if long_mode() { 20_000 } else { 40 } {
+        let mut random = Random::new(seed);
+        let list = list_of(&plane_plate(64, &mut random), &mut random);
+        let read = read_list(&list).expect("the plate is plane");
+        let file = shape_bytes(&read, &cancel_once(&read.plate));
+        let mut shaping = |damaged: &[u8]| {
+            numbers[usize::from(compare::shaping_longer(damaged, cancel_once))] += 1;
+        };
+        changed_once(&list, &mut random, &mut shaping);
+        cut_and_mixed(&list, &mut shaping);
+        let mut checking = |damaged: &[u8]| {
+            numbers[usize::from(compare::checking(&list, damaged, cancel_once))] += 1;
+        };
+        changed_once(&file, &mut random, &mut checking);
+        cut_and_mixed(&file, &mut checking);
+    }
+    print_numbers("random plates damaged", &numbers);
 }
 
 /// Every byte of P1 changed to every value, in list and in shape.

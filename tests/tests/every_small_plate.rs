@@ -4,10 +4,9 @@ use plates_tests::cancelling;
 use plates_tests::compare;
 use plates_tests::files::Solver;
 use plates_tests::files::{list_bytes, read_list, shape_bytes};
-use plates_tests::plate::{Plate, Shape};
+use plates_tests::plate::Plate;
+use plates_tests::remembered::search_once;
 use plates_tests::{long_mode, search};
-use std::cell::RefCell;
-use std::collections::HashMap;
 
 /// How many plates were compared.
 #[derive(Debug, Default)]
@@ -102,28 +101,6 @@ fn permutations(items: &[usize]) -> Vec<Vec<usize>> {
     all
 }
 
-thread_local! {
-    /// Shapes found of late, by the plate with the lowest dart of each post first.
-    static FOUND: RefCell<HashMap<String, Shape>> = RefCell::new(HashMap::new());
-}
-
-/// The best shape, searched for once for all starting darts of the orders: it
-/// does not depend on them.
-fn best_of_cyclic(plate: &Plate) -> Shape {
-    let mut turned = plate.clone();
-    for around in &mut turned.order {
-        let lowest = (0..around.len()).min_by_key(|&place| around[place]);
-        around.rotate_left(lowest.unwrap_or(0));
-    }
-    FOUND.with_borrow_mut(|found| {
-        if found.len() > 10_000 {
-            found.clear();
-        }
-        let shape = found.entry(format!("{turned:?}"));
-        shape.or_insert_with(|| search::best(&turned)).clone()
-    })
-}
-
 /// Compares one plate; on a few of them also verdict, listing and other
 /// lengths of lent memory.
 fn compare_plate(plate: &Plate, best: Solver, counts: &mut Counts) {
@@ -171,7 +148,7 @@ fn every_plate_with_three_strips() {
 #[test]
 fn every_plate_with_four_strips() {
     if long_mode() {
-        compare_all(4, best_of_cyclic);
+        compare_all(4, search_once);
     }
 }
 
