@@ -84,6 +84,11 @@ fn changed_lengths(file: &[u8], visit: &mut dyn FnMut(&[u8])) {
     }
 }
 
+/// The list of a random plate with at most so many posts.
+fn random_list(most: usize, random: &mut Random) -> Vec<u8> {
+    list_of(&plane_plate(most, random), random)
+}
+
 /// Sizes of the plates to be damaged: mostly small.
 fn size(seed: u64) -> usize {
     if seed % 8 == 7 {
@@ -114,7 +119,7 @@ fn damaged_lists() {
     let mut numbers = Numbers::default();
     for seed in 0..how_many() {
         let mut random = Random::new(2_000_000 + seed);
-        let list = list_of(&plane_plate(size(seed), &mut random), &mut random);
+        let list = random_list(size(seed), &mut random);
         let mut other = Random::new(seed);
         each_damaged(&list, &mut random, &mut |damaged| {
             numbers[usize::from(compare::shaping(damaged, cancelling::best))] += 1;
@@ -132,7 +137,7 @@ fn damaged_shapes() {
     let mut numbers = Numbers::default();
     for seed in 0..how_many() {
         let mut random = Random::new(3_000_000 + seed);
-        let list = list_of(&plane_plate(size(seed), &mut random), &mut random);
+        let list = random_list(size(seed), &mut random);
         let read = read_list(&list).expect("the plate is plane");
         let shape = match seed % 2 {
             0 => cancelling::best(&read.plate),
@@ -156,7 +161,7 @@ fn damaged_lists_with_shapes() {
     let mut numbers = Numbers::default();
     for seed in 0..how_many() / 4 {
         let mut random = Random::new(4_000_000 + seed);
-        let list = list_of(&plane_plate(size(seed), &mut random), &mut random);
+        let list = random_list(size(seed), &mut random);
         let read = read_list(&list).expect("the plate is plane");
         let file = shape_bytes(&read, &cancelling::best(&read.plate));
         let mut other = Random::new(seed);
@@ -170,6 +175,7 @@ fn damaged_lists_with_shapes() {
         });
     }
     print_numbers("damaged lists with shapes", &numbers);
+    (0..=6).for_each(|number| assert_ne!(numbers[number], 0, "number {number}"));
 }
 
 /// The random plates that `random_plates.rs` compares: the list and its best
@@ -180,7 +186,7 @@ fn every_random_plate_damaged() {
     let mut numbers = Numbers::default();
     for seed in 0..if long_mode() { 20_000 } else { 40 } {
         let mut random = Random::new(seed);
-        let list = list_of(&plane_plate(64, &mut random), &mut random);
+        let list = random_list(64, &mut random);
         let read = read_list(&list).expect("the plate is plane");
         let file = shape_bytes(&read, &cancel_once(&read.plate));
         let mut shaping = |damaged: &[u8]| {
@@ -195,6 +201,9 @@ fn every_random_plate_damaged() {
         cut_and_mixed(&file, &mut checking);
     }
     print_numbers("random plates damaged", &numbers);
+    let met = [0, 1, 2, 3, 4, 5, 6, 9, 11, 12, 18, 19, 20, 21, 22];
+    met.iter()
+        .for_each(|&number: &usize| assert_ne!(numbers[number], 0, "number {number}"));
 }
 
 /// Every byte of P1 changed to every value, in list and in shape.

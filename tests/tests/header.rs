@@ -1,6 +1,9 @@
-//! The C header gives each refusal the same name and number as the package.
+//! The C header gives each refusal the same name and number as the package,
+//! and a C program that includes it gets the library's answers.
 
 use plates::Refusal;
+use std::path::{Path, PathBuf};
+use std::process::Command;
 
 /// A name in capitals, with an underscore before each inner capital.
 fn c_name(refusal: Refusal) -> String {
@@ -25,4 +28,45 @@ fn header_has_every_refusal() {
         });
         assert!(stands, "{refusal:?}");
     }
+}
+
+/// The folder of the archive, as the package `plates` finds it.
+fn archive_folder(root: &Path) -> PathBuf {
+    match std::env::var_os("PLATES_LIB_DIR") {
+        Some(folder) => PathBuf::from(folder),
+        None => root.join("target").join("staticlib"),
+    }
+}
+
+/// What P1's C program prints. `cc` is there: cargo links with it.
+fn printed_by_c() -> String {
+    let package = Path::new(env!("CARGO_MANIFEST_DIR"));
+    let root = package.parent().expect("the package stands in a folder");
+    let program = Path::new(env!("CARGO_TARGET_TMPDIR")).join("p1");
+    let compiled = Command::new("cc")
+        .args(["-std=c99", "-Wall", "-Wextra", "-Werror", "-I"])
+        .arg(root.join("include"))
+        .arg(package.join("c").join("p1.c"))
+        .arg(archive_folder(root).join("libplates.a"))
+        .arg("-o")
+        .arg(&program)
+        .status();
+    assert!(compiled.expect("cc is installed").success());
+    let ran = Command::new(&program).output().expect("p1 was compiled");
+    assert!(ran.status.success());
+    String::from_utf8(ran.stdout).expect("p1 prints text")
+}
+
+/// The expected lines are document 01's of P1; a list without its last byte is
+/// refused with 5.
+#[test]
+fn c_program_gets_the_answers() {
+    let expected = "write 0 length 24 bends 2\n\
+        check 0 total 2 fewest 2 ours 1\n\
+        check 5 total 0 fewest 0 ours 0\n\
+        listing 0\n\
+        revision 7\nbends 2\n\
+        dart 0 right 0 angle 1\ndart 1 right 0 angle 3\n\
+        dart 2 right 0 angle 3\ndart 3 right 2 angle 1\n";
+    assert_eq!(printed_by_c(), expected);
 }
