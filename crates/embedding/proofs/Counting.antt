@@ -1,20 +1,19 @@
--- Post by post: the degrees, and the parts of the order.
+-- Post by post: the degrees as counted, and the parts of the order.
 use mathlib.Core.Path.{_≡_, refl, sym, ap, ap₂, subst, _∙_}
-use mathlib.Core.Bool.{Bool, true, false, _&&_, true≢false, false≢true}
+use mathlib.Core.Bool.{Bool, true, false, _&&_, false≢true}
 use mathlib.Core.List.{List, []}
 use mathlib.Core.Logic.{⊎-elim}
 use Prim.Native.Nat.{ℕ, suc, _+_, _-_, _/_, _%_, _≤_, _<_}
 use native.Mathlib.Decide.{decLt}
 use native.Mathlib.Numerals.{add-one}
 use native.Mathlib.Omega.{arith}
-use borrow.Author.Tests.{lt-ltb, le-ltb}
 use lib.ListN.{length, getD, take, drop, set, length-set, replicate, length-replicate, getD-replicate, List·getD-eq-default}
 use lib.Seq.{getD-set-same, getD-set-other}
 use Rattle.finite.specs.Tables.{Table, upTo}
-use Rattle.finite.proofs.Tables.{table-none, table-cong, table-more, up-below, up-from, up-more}
+use Rattle.finite.proofs.Tables.{table-cong, up-below, up-from, up-more}
 use Rattle.finite.proofs.Tests.{equal-or-not}
-use Rattle.embedding.specs.Plates.{Plate, plate, degreeFrom, degree, before, partOf, overFour, distinct, allLeave, partsOk}
-use Rattle.embedding.specs.Steps.{Few, Counts, PostRead, placeIn, OrderRead}
+use Rattle.embedding.specs.Plates.{Plate, plate, degreeFrom, degree, before, partOf, distinct, allLeave, partsOk}
+use Rattle.embedding.specs.Steps.{Few, PostRead, placeIn, OrderRead}
 use Rattle.embedding.specs.declared.Row.{Row}
 use Rattle.embedding.proofs.Rotation.{before-most}
 
@@ -25,49 +24,6 @@ module _ (F : ℕ → ℕ → Bool) (n v : ℕ) (so-far : F (n - v) v ≡ F n 0)
 
   pub no-more : n ≤ v → F 0 v ≡ F n 0
   no-more l = ap (λ (k : ℕ). F k v) {x = 0} {y = n - v} (omega arith) ∙ so-far
-
-pub record Counting (n : ℕ) (e : List ℕ) (v : ℕ) (degrees : List ℕ) : Type 0 where
-  pub over : (o : List ℕ) (x : ℕ) → overFour (n - v) v (plate n e o x) ≡ overFour n 0 (plate n e o x)
-  pub table : Table 64 (upTo v (λ u. degreeFrom u e)) degrees
-  pub most : (u : ℕ) → u < v → degreeFrom u e ≤ 4
-  pub within : v ≤ n
-
-pub counting-start : (n : ℕ) (e : List ℕ) → Counting n e 0 (replicate 64 0)
-counting-start n e =
-    record {
-      over = λ o x. ap (λ (k : ℕ). overFour k 0 (plate n e o x)) {x = n - 0} {y = n} (omega arith);
-      table = table-none 64 _;
-      most = λ u l. absurd (omega arith);
-      within = omega arith;
-    }
-
-module _ {n : ℕ} {e : List ℕ} {v : ℕ} {degrees : List ℕ} (h : Counting n e v degrees) where
-  pub counting-more : {k : ℕ} → v < n → n ≤ 64 → k ≡ degreeFrom v e → k ≤ 4 → Counting n e (v + 1) (set degrees v k)
-  counting-more {k} l b q m =
-      record {
-        over = λ o x. on (plate n e o x) refl (h .over o x);
-        table = table-more 64 (λ u. degreeFrom u e) degrees v k (h .table) (omega arith) q;
-        most = λ u j. ⊎-elim (λ w. omega (arith, ap (λ (z : ℕ). degreeFrom z e) w)) (λ w. h .most u (omega arith)) (equal-or-not u v);
-        within = omega arith;
-      }
-    where
-      on : (p : Plate) → degree p v ≡ degreeFrom v e → overFour (n - v) v p ≡ overFour n 0 p → overFour (n - (v + 1)) (v + 1) p ≡ overFour n 0 p
-      on p w s =
-          let here : overFour (n - (v + 1)) (suc v) p ≡ overFour (suc (n - (v + 1))) v p = rw (le-ltb 4 (degree p v) (omega arith)) in
-          ap (λ (u : ℕ). overFour (n - (v + 1)) u p) (add-one v) ∙ here ∙ this (λ k u. overFour k u p) n v s l
-
-  pub counting-over : {xs : List ℕ} → v < n → 4 < degreeFrom v e → Counts n e (record { over = true; degrees = xs })
-  counting-over l m = record { over = λ o x. on (plate n e o x) m (h .over o x); few = λ w. absurd (true≢false w) }
-    where
-      on : (p : Plate) → 4 < degree p v → overFour (n - v) v p ≡ overFour n 0 p → true ≡ overFour n 0 p
-      on p w s = let here : true ≡ overFour (suc (n - (v + 1))) v p = rw (lt-ltb 4 (degree p v) w) in here ∙ this (λ k u. overFour k u p) n v s l
-
-  pub counting-done : n ≤ v → Counts n e (record { over = false; degrees = degrees })
-  counting-done l =
-      record {
-        over = λ o x. no-more (λ k u. overFour k u (plate n e o x)) n v (h .over o x) l;
-        few = λ w. record { table = subst (λ (k : ℕ). Table 64 (upTo k (λ u. degreeFrom u e)) degrees) {x = v} {y = n} (omega arith) (h .table); most = λ u j. h .most u (omega arith) };
-      }
 
 -- the degree of a post, as counted
 module _ {n : ℕ} {e degrees : List ℕ} (b : n ≤ 64) (f : Few n e degrees) where

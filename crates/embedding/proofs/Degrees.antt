@@ -4,11 +4,11 @@ use mathlib.Core.Bool.{Bool, true, false, _&&_, _||_, not}
 use Prim.Native.Nat.{ℕ, suc, _*_, _≤_, _<_}
 use native.Mathlib.Decide.{decLt}
 use native.Mathlib.Omega.{arith}
-use borrow.Author.Tests.{eqb-true, eq-eqb, ltb-false, not-true}
+use borrow.Author.Tests.{eqb-true, eq-eqb, ltb-false, le-ltb, not-true}
 use lib.Dec.{eqb, ltb}
 use Rattle.finite.proofs.Members.{all-in, getD-in}
 use Rattle.finite.proofs.Sums.{sumBelow, sum-cong, sum-ones, sum-constant, sum-count, sum-has, sum-le}
-use Rattle.finite.proofs.Tests.{not-of-false, from-each, eqb-turned}
+use Rattle.finite.proofs.Tests.{not-of-false, from-each, each-from, eqb-turned}
 use Rattle.embedding.specs.Plates.{when, Plate, darts, leaves, endsAt, degree, overFour}
 use Rattle.embedding.proofs.Rotation.{Ordered, degree-count}
 use Rattle.embedding.proofs.Reach.{spreads}
@@ -50,15 +50,26 @@ module _ (p : Plate) (o : Ordered p) where
       there u v true e = ap g (eqb-true u v e)
       there u v false e = refl
 
-module _ (p : Plate) (f : Faultless p) where
+-- no post over four, as a test and of each post
+module _ (p : Plate) where
   few : ℕ → Bool
   few v = not (ltb 4 (degree p v))
 
-  pub degree-most : (v : ℕ) → v < p .posts → degree p v ≤ 4
+  pub over-most : (n : ℕ) → overFour n 0 p ≡ false → (v : ℕ) → v < n → degree p v ≤ 4
   unfolding few
-  degree-most v l =
+  over-most n e v l =
       ltb-false 4 (degree p v) (not-true (ltb 4 (degree p v))
-      (from-each (λ n a. not (overFour n a p)) few (λ a. refl) (λ n a. not-or (ltb 4 (degree p a)) (overFour n (suc a) p)) (p .posts) 0 (not-of-false (f .four-most)) v (omega arith) (omega arith)))
+      (from-each (λ n a. not (overFour n a p)) few (λ a. refl) (λ n a. not-or (ltb 4 (degree p a)) (overFour n (suc a) p)) n 0 (not-of-false e) v (omega arith) (omega arith)))
+
+  pub most-over : (n : ℕ) → ((v : ℕ) → v < n → degree p v ≤ 4) → overFour n 0 p ≡ false
+  unfolding few
+  most-over n h =
+      not-true (overFour n 0 p)
+      (each-from (λ n a. not (overFour n a p)) few (λ a. refl) (λ n a. not-or (ltb 4 (degree p a)) (overFour n (suc a) p)) n 0 (λ v l k. not-of-false (le-ltb 4 (degree p v) (h v (omega arith)))))
+
+module _ (p : Plate) (f : Faultless p) where
+  pub degree-most : (v : ℕ) → v < p .posts → degree p v ≤ 4
+  degree-most = over-most p (p .posts) (f .four-most)
 
   -- a post without a strip end would be the only one
   first-least : 1 ≤ degree p 0

@@ -6,6 +6,7 @@ pub mod Dual
 pub mod Faultless
 pub mod Totals
 pub mod Degrees
+pub mod OnePass
 pub mod Example
 pub mod Fronts
 pub mod Counting

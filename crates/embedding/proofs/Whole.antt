@@ -3,51 +3,26 @@ use mathlib.Core.Path.{_≡_, refl, sym, ap, ap₂, subst, _∙_}
 use mathlib.Core.Bool.{Bool, true, false, _&&_, _||_, not}
 use mathlib.Core.List.{List, [], _∷_}
 use Prim.Native.Nat.{ℕ, zero, suc, _+_, _*_, _/_, _%_, _≤_, _<_}
-use native.Mathlib.Decide.{decLt}
 use native.Mathlib.Omega.{arith}
-use borrow.Author.Tests.{eqb-false, eq-eqb, ne-eqb, ltb-false, le-leb, lt-leb, not-false}
-use lib.Dec.{eqb, ltb, leb}
+use borrow.Author.Tests.{eqb-false, eq-eqb, ne-eqb, ltb-false, le-leb, lt-leb}
+use lib.Dec.{eqb, ltb}
 use lib.ListN.{length, getD, take, drop, length-take, length-drop}
 use lib.Seq.{getD-take, getD-drop, ext-getD}
 use Rattle.finite.specs.Tables.{Table, upTo}
 use Rattle.finite.specs.Walks.{OneToOne}
 use Rattle.finite.proofs.Members.{all-of}
 use Rattle.finite.proofs.Pigeonhole.{at-most}
-use Rattle.finite.proofs.Tables.{table-cong, up-below, up-from}
-use Rattle.finite.proofs.Tests.{or-left-false, or-right-false, first-none, when-none}
-use Rattle.embedding.specs.Plates.{pick, pickT, firstOf, when, Plate, plate, darts, twin, endsAt, partOf, allBelow, someLoop, overFour, partsOk, lastOf, justBefore, after, faces, reach, connected, isPlane, plateFault}
+use Rattle.finite.proofs.Tables.{table-cong, up-below, up-cong}
+use Rattle.finite.proofs.Tests.{or-left-false, or-right-false, first-none, first-assoc, when-none}
+use Rattle.embedding.specs.Plates.{pickT, firstOf, when, Plate, plate, darts, twin, endsAt, partOf, allBelow, someLoop, partsOk, lastOf, justBefore, after, faces, reach, connected, isPlane, plateFault}
 use Rattle.embedding.specs.Steps.{Few, placeIn, afterIn, nextOf}
-use Rattle.embedding.specs.Read.{Follows, faceSize, Stands, blank, refusal, Reads, earlyFault}
+use Rattle.embedding.specs.Pass.{stripsFault, lateFault}
+use Rattle.embedding.specs.Read.{Follows, faceSize, Stands, blank, earlyFault, Past, refusal, Reads}
 use Rattle.embedding.specs.declared.Plate.{Plate as Held}
 use Rattle.embedding.proofs.Faces.{faces-distinct, faces-below}
 use Rattle.embedding.proofs.Counting.{few-at, few-most}
+use Rattle.embedding.proofs.OnePass.{strips-none, fault-parts}
 use Rattle.embedding.proofs.Rotation.{Ordered, length-part, leaves-below, twin-dart, after-below, after-one}
-
--- refusals 11 to 15
-abbrev lateFault : Plate → ℕ
-lateFault p =
-    firstOf (when (overFour (p .posts) 0 p) 11) (firstOf (when (not (eqb (length (p .order)) (darts p) && partsOk (p .posts) 0 p)) 12)
-    (firstOf (when (leb (darts p) (p .outer)) 13) (firstOf (when (not (connected p)) 14) (when (not (isPlane p)) 15))))
-
-first-assoc : (a b c : ℕ) → firstOf a (firstOf b c) ≡ firstOf (firstOf a b) c
-first-assoc zero b c = refl
-first-assoc (suc a) b c = refl
-
-fault-parts : (p : Plate) → plateFault p ≡ firstOf (earlyFault (p .posts) (p .ends)) (lateFault p)
-fault-parts p =
-    ap (λ (r : ℕ). firstOf a (firstOf b r)) (first-assoc c d (lateFault p)) ∙ ap (firstOf a) (first-assoc b (firstOf c d) (lateFault p)) ∙ first-assoc a (firstOf b (firstOf c d)) (lateFault p)
-  where
-    a : ℕ
-    a = when (eqb (p .posts) 0 || ltb 64 (p .posts)) 7
-
-    b : ℕ
-    b = when (eqb (darts p) 0) 8
-
-    c : ℕ
-    c = when (not (allBelow (p .posts) (p .ends))) 9
-
-    d : ℕ
-    d = when (someLoop (p .ends)) 10
 
 -- a refusal, and a plate without fault
 refused : (p : Plate) (e : ℕ) → (e ≡ 0 → ⊥) → plateFault p ≡ e → Reads p (refusal e)
@@ -56,57 +31,60 @@ refused p e n h = record { number = sym h; held = subst (λ (b : Bool). pickT b 
 accepted : (p : Plate) (q : Held) → plateFault p ≡ 0 → Stands q p → Reads p (record { number = 0; plate = q })
 accepted p q h s = record { number = sym h; held = subst (λ (b : Bool). pickT b (Stands q p) (q ≡ blank)) (sym (eq-eqb (plateFault p) 0 h)) s }
 
-pub early-refused : (p : Plate) (e : ℕ) → e ≡ earlyFault (p .posts) (p .ends) → (e ≡ 0 → ⊥) → Reads p (refusal e)
-early-refused p e q n = refused p e n (fault-parts p ∙ ap (λ (a : ℕ). firstOf a (lateFault p)) (sym q) ∙ first e n)
-  where
-    first : (a : ℕ) → (a ≡ 0 → ⊥) → firstOf a (lateFault p) ≡ a
-    first zero m = absurd (m refl)
-    first (suc a) m = refl
+first-met : (a b : ℕ) → (a ≡ 0 → ⊥) → firstOf a b ≡ a
+first-met zero b m = absurd (m refl)
+first-met (suc a) b m = refl
 
--- refusals 7 to 10 not met
-pub record Early (n : ℕ) (e : List ℕ) : Type 0 where
+early-parts : (p : Plate) → plateFault p ≡ firstOf (earlyFault (p .posts) (p .ends)) (firstOf (stripsFault p) (lateFault p))
+early-parts p = fault-parts p ∙ first-assoc (when (eqb (p .posts) 0 || ltb 64 (p .posts)) 7) (when (eqb (darts p) 0) 8) (firstOf (stripsFault p) (lateFault p))
+
+pub early-refused : (p : Plate) (e : ℕ) → e ≡ earlyFault (p .posts) (p .ends) → (e ≡ 0 → ⊥) → Reads p (refusal e)
+early-refused p e q n = refused p e n (early-parts p ∙ ap (λ (a : ℕ). firstOf a (firstOf (stripsFault p) (lateFault p))) (sym q) ∙ first-met e (firstOf (stripsFault p) (lateFault p)) n)
+
+-- refusals 7 and 8 not met
+pub record Early (n : ℕ) : Type 0 where
   pub some-post : 0 < n
   pub posts-most : n ≤ 64
-  pub ends-below : allBelow n e ≡ true
-  pub no-loop : someLoop e ≡ false
 
-pub early : (n : ℕ) (e : List ℕ) → earlyFault n e ≡ 0 → Early n e
+pub early : (n : ℕ) (e : List ℕ) → earlyFault n e ≡ 0 → Early n
 early n e h =
-    let r7 = first-none (when (eqb n 0 || ltb 64 n) 7) (firstOf (when (eqb (length e) 0) 8) (firstOf (when (not (allBelow n e)) 9) (when (someLoop e) 10))) h in
-    let r8 = first-none (when (eqb (length e) 0) 8) (firstOf (when (not (allBelow n e)) 9) (when (someLoop e) 10)) (r7 .1) in
-    let r9 = first-none (when (not (allBelow n e)) 9) (when (someLoop e) 10) (r8 .1) in
-    let t7 = when-none (eqb n 0 || ltb 64 n) 6 (r7 .0) in
-    record {
-      some-post = let z = eqb-false n 0 (or-left-false (eqb n 0) (ltb 64 n) t7) in omega arith;
-      posts-most = ltb-false 64 n (or-right-false (eqb n 0) (ltb 64 n) t7);
-      ends-below = not-false (allBelow n e) (when-none (not (allBelow n e)) 8 (r9 .0));
-      no-loop = when-none (someLoop e) 9 (r9 .1);
-    }
+    let t7 = when-none (eqb n 0 || ltb 64 n) 6 (first-none (when (eqb n 0 || ltb 64 n) 7) (when (eqb (length e) 0) 8) h .0) in
+    record { some-post = let z = eqb-false n 0 (or-left-false (eqb n 0) (ltb 64 n) t7) in omega arith; posts-most = ltb-false 64 n (or-right-false (eqb n 0) (ltb 64 n) t7) }
 
 module _ (p : Plate) (none : earlyFault (p .posts) (p .ends) ≡ 0) where
+  past-8 : plateFault p ≡ firstOf (stripsFault p) (lateFault p)
+  past-8 = early-parts p ∙ ap (λ (a : ℕ). firstOf a (firstOf (stripsFault p) (lateFault p))) none
+
+  pub strips-refused : (e : ℕ) → e ≡ stripsFault p → (e ≡ 0 → ⊥) → Reads p (refusal e)
+  strips-refused e q n = refused p e n (past-8 ∙ ap (λ (a : ℕ). firstOf a (lateFault p)) (sym q) ∙ first-met e (lateFault p) n)
+
+-- refusals 7 to 11 not met
+module _ (p : Plate) {degrees : List ℕ} (h : Past (p .posts) (p .ends) degrees) where
   late-is : plateFault p ≡ lateFault p
-  late-is = fault-parts p ∙ ap (λ (a : ℕ). firstOf a (lateFault p)) none
+  late-is = past-8 p (h .early) ∙ ap (λ (a : ℕ). firstOf a (lateFault p)) (h .strips (p .order) (p .outer))
 
-  pub refused-11 : true ≡ overFour (p .posts) 0 p → Reads p (refusal 11)
-  refused-11 h = refused p 11 (λ z. omega arith) (late-is ∙ rw (sym h))
+  pub refused-12 : eqb (length (p .order)) (darts p) && partsOk (p .posts) 0 p ≡ false → Reads p (refusal 12)
+  refused-12 e = refused p 12 (λ z. omega arith) (late-is ∙ rw e)
 
-  pub refused-12 : false ≡ overFour (p .posts) 0 p → eqb (length (p .order)) (darts p) && partsOk (p .posts) 0 p ≡ false → Reads p (refusal 12)
-  refused-12 over h = refused p 12 (λ z. omega arith) (late-is ∙ rw (sym over, h))
+  pub ends-below : allBelow (p .posts) (p .ends) ≡ true
+  ends-below = strips-none p (h .strips (p .order) (p .outer)) .0
+
+  no-loop : someLoop (p .ends) ≡ false
+  no-loop = strips-none p (h .strips (p .order) (p .outer)) .1
 
 -- refusals 7 to 12 not met
-pub record PastOrder (p : Plate) : Type 0 where
-  pub none : earlyFault (p .posts) (p .ends) ≡ 0
-  pub not-over : false ≡ overFour (p .posts) 0 p
+pub record PastOrder (p : Plate) (degrees : List ℕ) : Type 0 where
+  pub past : Past (p .posts) (p .ends) degrees
   pub long : length (p .order) ≡ darts p
   pub parts : true ≡ partsOk (p .posts) 0 p
 
-module _ {p : Plate} (h : PastOrder p) where
+module _ {p : Plate} {degrees : List ℕ} (h : PastOrder p degrees) where
   pub refused-13 : darts p ≤ p .outer → Reads p (refusal 13)
-  refused-13 l = refused p 13 (λ z. omega arith) (late-is p (h .none) ∙ rw (sym (h .not-over), eq-eqb (length (p .order)) (darts p) (h .long), sym (h .parts), le-leb (darts p) (p .outer) l))
+  refused-13 l = refused p 13 (λ z. omega arith) (late-is p (h .past) ∙ rw (eq-eqb (length (p .order)) (darts p) (h .long), sym (h .parts), le-leb (darts p) (p .outer) l))
 
   module _ (inner : p .outer < darts p) where
     past-13 : plateFault p ≡ firstOf (when (not (connected p)) 14) (when (not (isPlane p)) 15)
-    past-13 = late-is p (h .none) ∙ rw (sym (h .not-over), eq-eqb (length (p .order)) (darts p) (h .long), sym (h .parts), lt-leb (darts p) (p .outer) inner)
+    past-13 = late-is p (h .past) ∙ rw (eq-eqb (length (p .order)) (darts p) (h .long), sym (h .parts), lt-leb (darts p) (p .outer) inner)
 
     pub refused-14 : (length (reach (p .posts) p (0 ∷ [])) ≡ p .posts → ⊥) → Reads p (refusal 14)
     refused-14 q = refused p 14 (λ z. omega arith) (past-13 ∙ rw (ne-eqb (length (reach (p .posts) p (0 ∷ []))) (p .posts) q))
@@ -122,27 +100,30 @@ module _ {p : Plate} (h : PastOrder p) where
       plate-read {q} w s = accepted p q (past-14 ∙ rw (eq-eqb (p .posts + length (faces p)) (darts p / 2 + 2) w)) s
 
 -- the next darts, from the places and the degrees, are those of the plate
-module _ {p : Plate} (h : PastOrder p) (even : darts p % 2 ≡ 0) (most : darts p ≤ 256) where
-  first : Early (p .posts) (p .ends)
-  first = early (p .posts) (p .ends) (h .none)
+module _ {p : Plate} {degrees : List ℕ} (h : PastOrder p degrees) (even : darts p % 2 ≡ 0) (most : darts p ≤ 256) where
+  few-posts : p .posts ≤ 64
+  few-posts = early (p .posts) (p .ends) (h .past .early) .posts-most
+
+  few : Few (p .posts) (p .ends) degrees
+  few = h .past .few
 
   in-order : Ordered p
-  in-order = record { even = even; ends-below = first .ends-below; no-loop = first .no-loop; all-ordered = h .long; parts-ok = sym (h .parts) }
+  in-order = record { even = even; ends-below = ends-below p (h .past); no-loop = no-loop p (h .past); all-ordered = h .long; parts-ok = sym (h .parts) }
 
-  module _ {places degrees : List ℕ} (t : Table 256 (placeIn p) places) (f : Few (p .posts) (p .ends) degrees) where
+  module _ {places : List ℕ} (t : Table 256 (placeIn p) places) where
     -- the places of a post hold its part
     part-held : (v : ℕ) → v < p .posts → take (getD degrees v 0) (drop (4 * v) places) ≡ partOf p v
     part-held v l =
         ext-getD 0 (take (getD degrees v 0) (drop (4 * v) places)) (partOf p v)
-        (omega (arith, size, length-part p in-order v, few-at (first .posts-most) f v l))
-        (λ i k. getD-take (getD degrees v 0) (drop (4 * v) places) i 0 (omega (arith, size)) ∙ getD-drop (4 * v) places i 0 ∙ here i (omega (arith, size, few-most (first .posts-most) f v)))
+        (omega (arith, size, length-part p in-order v, few-at few-posts few v l))
+        (λ i k. getD-take (getD degrees v 0) (drop (4 * v) places) i 0 (omega (arith, size)) ∙ getD-drop (4 * v) places i 0 ∙ here i (omega (arith, size, few-most few-posts few v)))
       where
         size : length (take (getD degrees v 0) (drop (4 * v) places)) ≡ getD degrees v 0
-        size = omega (arith, length-take (getD degrees v 0) (drop (4 * v) places), length-drop (4 * v) places, t .size, few-most (first .posts-most) f v, first .posts-most)
+        size = omega (arith, length-take (getD degrees v 0) (drop (4 * v) places), length-drop (4 * v) places, t .size, few-most few-posts few v, few-posts)
 
         here : (i : ℕ) → i < 4 → getD places (4 * v + i) 0 ≡ getD (partOf p v) i 0
         here i k =
-            t .at (4 * v + i) (omega (arith, first .posts-most))
+            t .at (4 * v + i) (omega (arith, few-posts))
             ∙ ap₂ (λ (u j : ℕ). upTo (p .posts) (λ w. getD (partOf p w) j 0) u) (quotient v i k) (remainder v i k)
             ∙ up-below (p .posts) (λ w. getD (partOf p w) i 0) v l
           where
@@ -157,11 +138,7 @@ module _ {p : Plate} (h : PastOrder p) (even : darts p % 2 ≡ 0) (most : darts 
 
     module _ {next : List ℕ} (w : Table 256 (upTo (darts p) (afterIn (p .ends) places degrees)) next) where
       next-held : Table 256 (upTo (darts p) (after p)) next
-      next-held = table-cong 256 (upTo (darts p) (afterIn (p .ends) places degrees)) (upTo (darts p) (after p)) next (λ d k. by d (decLt d (darts p))) w
-        where
-          by : (d : ℕ) → Dec (d < darts p) → upTo (darts p) (afterIn (p .ends) places degrees) d ≡ upTo (darts p) (after p) d
-          by d (yes l) = ap (λ (y : ℕ). pick (ltb d (darts p)) y 0) (after-held d l)
-          by d (no l) = up-from (darts p) (afterIn (p .ends) places degrees) d (omega arith) ∙ sym (up-from (darts p) (after p) d (omega arith))
+      next-held = table-cong 256 (upTo (darts p) (afterIn (p .ends) places degrees)) (upTo (darts p) (after p)) next (λ d k. up-cong (darts p) (afterIn (p .ends) places degrees) (after p) d (after-held d)) w
 
       pub next-follows : Follows p (darts p) next
       next-follows = record { many = refl; table = next-held }

@@ -1,4 +1,5 @@
 -- Plane plates: the definitions that the contracts cite.
 pub mod Plates
+pub mod Pass
 pub mod Steps
 pub mod Read

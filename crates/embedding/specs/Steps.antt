@@ -6,8 +6,7 @@ use Prim.Native.Nat.{ℕ, _+_, _*_, _/_, _%_, _≤_, _<_}
 use lib.ListN.{length, getD, take, drop}
 use Rattle.finite.specs.Tables.{Table, upTo}
 use Rattle.finite.specs.Walks.{orbit}
-use Rattle.embedding.specs.Plates.{pick, isIn, plate, Plate, twin, degreeFrom, partOf, overFour, distinct, allLeave, partsOk, lastOf, justBefore, joins}
-use Rattle.embedding.specs.declared.Counted.{Counted}
+use Rattle.embedding.specs.Plates.{pick, isIn, plate, Plate, twin, degreeFrom, partOf, distinct, allLeave, partsOk, lastOf, justBefore, joins}
 use Rattle.embedding.specs.declared.Row.{Row}
 use Rattle.embedding.specs.declared.Gathered.{Gathered}
 use Rattle.embedding.specs.declared.Seen.{Seen}
@@ -17,10 +16,6 @@ use Rattle.embedding.specs.declared.Label.{Label}
 pub record Few (n : ℕ) (e : List ℕ) (degrees : List ℕ) : Type 0 where
   pub table : Table 64 (upTo n (λ v. degreeFrom v e)) degrees
   pub most : (v : ℕ) → v < n → degreeFrom v e ≤ 4
-
-pub record Counts (n : ℕ) (e : List ℕ) (r : Counted) : Type 0 where
-  pub over : (o : List ℕ) (x : ℕ) → r .over ≡ overFour n 0 (plate n e o x)
-  pub few : r .over ≡ false → Few n e (r .degrees)
 
 -- a post's part of the order
 pub record PostRead (e : List ℕ) (v : ℕ) (part : List ℕ) (r : Row) : Type 0 where

@@ -6,9 +6,15 @@ ghost use Prim.Native.Nat.{ℕ, _+_, _-_, _*_, _/_, _%_, _<_, _≤_};
 ghost use lib.ListN.{length, getD};
 ghost use Rattle.finite.specs.Tables.{Table, upTo};
 ghost use Rattle.finite.specs.Walks.{OneToOne};
-ghost use Rattle.embedding.specs.Plates.{Plate as PlateOf, reach, isIn, degreeFrom, twin, lastOf, justBefore, allBelow, someLoop, distinct, allLeave, plate};
-ghost use Rattle.embedding.specs.Steps.{Few, Counts, PostRead, OrderRead, afterIn, Joined, RoundMade, nextOf, FaceLabelled};
-ghost use Rattle.embedding.specs.Read.{Follows, Fitting, OneLabelled, FacesLabelled, earlyFault, refusal, Assembled, Reads};
+ghost use Rattle.embedding.specs.Plates.{Plate as PlateOf, reach, isIn, twin, lastOf, justBefore, allBelow, distinct, allLeave, plate};
+ghost use Rattle.embedding.specs.Steps.{Few, PostRead, OrderRead, afterIn, Joined, RoundMade, nextOf, FaceLabelled};
+ghost use Rattle.embedding.specs.Read.{Follows, Fitting, OneLabelled, FacesLabelled, earlyFault, Past, refusal, Assembled, Reads};
+
+pub mod strips;
+
+use crate::strips::answer;
+use crate::strips::go_on;
+use crate::strips::no_strips;
 
 // A plate without fault. The j-th dart of post v, clockwise, stands at 4 v + j of `places`; faces are numbered by their lowest darts.
 pub struct Plate {
@@ -28,12 +34,6 @@ pub struct Plate {
 pub struct Reading {
     pub number: u8,
     pub plate: Plate,
-}
-
-// The degrees of the posts, unless one has more than four strip ends.
-struct Counted {
-    over: bool,
-    degrees: [u8; 64],
 }
 
 // A post's part of the order.
@@ -81,48 +81,6 @@ pub fn twin_of(d: usize) -> usize
     ensures { λ r. ⌜ r ≡ twin d ⌝ }
 {
     if d % 2 == 0 { d + 1 } else { d - 1 }
-}
-
-fn all_below(n: usize, s: &[u8]) -> bool
-    ensures { λ r. ⌜ r ≡ allBelow n (now (s .entry)) ⌝ }
-{
-    let mut i = 0;
-    while i < s.len() {
-        if n <= wide(s[i]) {
-            return false;
-        }
-        i += 1;
-    }
-    true
-}
-
-fn some_loop(s: &[u8]) -> bool
-    requires { do ⌜ (← ⟦s.len()⟧) ≤ 256 ⌝ }
-    ensures { λ r. ⌜ r ≡ someLoop (now (s .entry)) ⌝ }
-{
-    let mut i = 0;
-    while i + 1 < s.len() {
-        if s[i] == s[i + 1] {
-            return true;
-        }
-        i += 2;
-    }
-    false
-}
-
-// How many strip ends are at post `v`.
-fn degree_of(ends: &[u8], v: usize) -> usize
-    ensures { λ r. ⌜ r ≡ degreeFrom v (now (ends .entry)) ⌝ }
-{
-    let mut count = 0usize;
-    let mut i = 0;
-    while i < ends.len() {
-        if v == wide(ends[i]) {
-            count += 1;
-        }
-        i += 1;
-    }
-    count
 }
 
 fn is_in(x: u8, s: &[u8]) -> bool
@@ -223,30 +181,6 @@ fn end_of(ends: &[u8], posts: usize, i: usize) -> usize
     ensures { λ r. ⌜ (r ≡ getD (now (ends .entry)) i 0) × (r < posts) ⌝ }
 {
     wide(ends[i])
-}
-
-// The degree of each post, up to the first that has more than four strip ends.
-fn count_degrees(posts: usize, ends: &[u8]) -> Counted
-    requires { ⌜ posts ≤ 64 ⌝ }
-    ensures { λ r. ⌜ Counts posts (now (ends .entry)) r ⌝ }
-{
-    let mut degrees = [0u8; 64];
-    let mut v = 0;
-    while v < posts {
-        let degree = degree_of(ends, v);
-        if 4 < degree {
-            return Counted {
-                over: true,
-                degrees,
-            };
-        }
-        degrees[v] = degree as u8;
-        v += 1;
-    }
-    Counted {
-        over: false,
-        degrees,
-    }
 }
 
 // The part of post `v`: its darts, each leaving it, none twice.
@@ -492,9 +426,8 @@ fn refuse(number: u8) -> Reading
     }
 }
 
-// Refusals 7 to 10.
+// Refusals 7 and 8.
 fn early_fault(posts: usize, ends: &[u8]) -> u8
-    requires { do ⌜ (← ⟦ends.len()⟧) ≤ 256 ⌝ }
     ensures { λ r. ⌜ r ≡ earlyFault posts (now (ends .entry)) ⌝ }
 {
     if posts == 0 {
@@ -505,12 +438,6 @@ fn early_fault(posts: usize, ends: &[u8]) -> u8
     }
     if ends.len() == 0 {
         return 8;
-    }
-    if !all_below(posts, ends) {
-        return 9;
-    }
-    if some_loop(ends) {
-        return 10;
     }
     0
 }
@@ -546,19 +473,14 @@ fn hold(
     }
 }
 
-// Refusals 11 to 15, or the plate.
-fn read_rest(posts: usize, ends: &[u8], order: &[u8], outer: u8) -> Reading
-    requires { do ⌜ ((← ⟦ends.len()⟧) ≤ 256) × ((← ⟦ends.len()⟧) % 2 ≡ 0) × (earlyFault posts (now ends) ≡ 0) ⌝ }
+// Refusals 12 to 15, or the plate.
+fn read_rest(posts: usize, ends: &[u8], order: &[u8], outer: u8, degrees: [u8; 64]) -> Reading
+    requires { do ⌜ ((← ⟦ends.len()⟧) ≤ 256) × ((← ⟦ends.len()⟧) % 2 ≡ 0) × Past posts (now ends) degrees ⌝ }
     ensures { λ r. ⌜ Reads (plate posts (now (ends .entry)) (now (order .entry)) outer) r ⌝ }
 {
-    let counted = count_degrees(posts, ends);
-    if counted.over {
-        return refuse(11);
-    }
     if order.len() != ends.len() {
         return refuse(12);
     }
-    let degrees = counted.degrees;
     let gathered = read_order(posts, ends, order, degrees);
     if !gathered.ok {
         return refuse(12);
@@ -590,5 +512,11 @@ pub fn read_plate(posts: u8, ends: &[u8], order: &[u8], outer: u8) -> Reading
     if early != 0 {
         return refuse(early);
     }
-    read_rest(n, ends, order, outer)
+    let strips = go_on(n, no_strips(), ends);
+    let fault = answer(strips);
+    if fault != 0 {
+        return refuse(fault);
+    }
+    let degrees = strips.degrees;
+    read_rest(n, ends, order, outer, degrees)
 }

@@ -19,6 +19,13 @@ up-below k f i l = rw (lt-ltb i k l)
 pub up-from : (k : ℕ) (f : ℕ → ℕ) (i : ℕ) → k ≤ i → upTo k f i ≡ 0
 up-from k f i l = rw (le-ltb i k l)
 
+pub up-cong : (k : ℕ) (f g : ℕ → ℕ) (i : ℕ) → (i < k → f i ≡ g i) → upTo k f i ≡ upTo k g i
+up-cong k f g i h = go (ltb i k) refl
+  where
+    go : (b : Bool) → ltb i k ≡ b → pick b (f i) 0 ≡ pick b (g i) 0
+    go true e = h (ltb-true i k e)
+    go false e = refl
+
 pub table-none : (n : ℕ) (f : ℕ → ℕ) → Table n (upTo 0 f) (replicate n 0)
 table-none n f = record { size = length-replicate n 0; at = λ i l. getD-replicate n i 0 0 l ∙ sym (up-from 0 f i (omega arith)) }
 

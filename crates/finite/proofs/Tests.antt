@@ -77,6 +77,10 @@ pub first-none : (a b : ℕ) → firstOf a b ≡ 0 → (a ≡ 0) × (b ≡ 0)
 first-none zero b e = (refl, e)
 first-none (suc a) b e = absurd (omega arith)
 
+pub first-assoc : (a b c : ℕ) → firstOf a (firstOf b c) ≡ firstOf (firstOf a b) c
+first-assoc zero b c = refl
+first-assoc (suc a) b c = refl
+
 pub when-none : (t : Bool) (n : ℕ) → when t (suc n) ≡ 0 → t ≡ false
 when-none true n e = absurd (omega arith)
 when-none false n e = refl

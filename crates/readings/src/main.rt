@@ -3,6 +3,9 @@ ghost use Prim.Native.Nat.{_%_, _≤_};
 ghost use mathlib.Core.Path.{_≡_};
 ghost use lib.ListN.{length};
 use embedding::read_plate;
+use embedding::strips::answer;
+use embedding::strips::go_on;
+use embedding::strips::no_strips;
 use libc::STDOUT_FILENO;
 
 // Writes the degrees of the faces and ends the line.
@@ -31,6 +34,19 @@ fn show(label: &[u8], posts: u8, ends: &[u8], order: &[u8], outer: u8)
     if faces <= 66 {
         show_faces(faces, sizes);
     }
+}
+
+// Goes over the strips of `front`, stops, goes on over those of `rest`, and writes a line: the label, the number.
+fn show_stopped(label: &[u8], posts: usize, front: &[u8], rest: &[u8])
+    requires { ⌜ posts ≤ 64 ⌝ }
+{
+    let begun = go_on(posts, no_strips(), front);
+    let whole = go_on(posts, begun, rest);
+    io::write_all(STDOUT_FILENO, b"stopped, ");
+    io::write_all(STDOUT_FILENO, label);
+    io::write_all(STDOUT_FILENO, b" ");
+    io::print_decimal(STDOUT_FILENO, answer(whole) as u64);
+    io::write_all(STDOUT_FILENO, b"\n");
 }
 
 // Document 01's P1 to P4.
@@ -159,6 +175,41 @@ fn orders() {
     );
 }
 
+// Refusals 9 to 11 by a pass that was stopped, each against the next, met in front and in the rest.
+fn stopped() {
+    show_stopped(
+        b"a strip to itself, then no post",
+        2,
+        b"\x01\x01",
+        b"\x00\x02",
+    );
+    show_stopped(
+        b"no post, then a strip to itself",
+        2,
+        b"\x02\x00",
+        b"\x01\x01",
+    );
+    show_stopped(
+        b"five strips, then one to itself",
+        2,
+        b"\x00\x01\x00\x01\x00\x01\x00\x01\x00\x01",
+        b"\x01\x01",
+    );
+    show_stopped(
+        b"three strips, then two",
+        2,
+        b"\x00\x01\x00\x01\x00\x01",
+        b"\x00\x01\x00\x01",
+    );
+    show_stopped(
+        b"three strips, then one",
+        2,
+        b"\x00\x01\x00\x01\x00\x01",
+        b"\x00\x01",
+    );
+    show_stopped(b"no strip, then one", 2, b"", b"\x00\x01");
+}
+
 // Refusals 13 to 15, each against the next.
 fn whole_plates() {
     show(
@@ -191,5 +242,6 @@ fn main() {
     posts_and_strips();
     strips_at_a_post();
     orders();
+    stopped();
     whole_plates();
 }

@@ -1,0 +1,108 @@
+//! The strips gone over once: refusals 9 to 11 and the degrees of the posts. The pass may stop after any strip and go on later.
+ghost use mathlib.Core.Path.{_≡_};
+ghost use Prim.Native.Nat.{_≤_};
+ghost use Rattle.embedding.specs.Pass.{noStrips, addEnd, addStrip, GoneOn, Answered};
+use crate::wide;
+
+// What was met so far: an end that is no post (9), a strip from a post to itself (10), a fifth strip end at a post (11); and how many strip ends each post has, counted up to four.
+pub struct Strips {
+    pub stray: bool,
+    pub looped: bool,
+    pub over: bool,
+    pub degrees: [u8; 64],
+}
+
+// No strip gone over.
+pub fn no_strips() -> Strips
+    ensures { λ r. ⌜ r ≡ noStrips ⌝ }
+{
+    Strips {
+        stray: false,
+        looped: false,
+        over: false,
+        degrees: [0; 64],
+    }
+}
+
+// One strip end, at `v`.
+fn add_end(posts: usize, s: Strips, v: usize) -> Strips
+    requires { ⌜ posts ≤ 64 ⌝ }
+    ensures { λ r. ⌜ r ≡ addEnd posts v s ⌝ }
+{
+    let mut degrees = s.degrees;
+    if posts <= v {
+        return Strips {
+            stray: true,
+            looped: s.looped,
+            over: s.over,
+            degrees,
+        };
+    }
+    let count = degrees[v];
+    if 4 <= count {
+        return Strips {
+            stray: s.stray,
+            looped: s.looped,
+            over: true,
+            degrees,
+        };
+    }
+    degrees[v] = count + 1;
+    Strips {
+        stray: s.stray,
+        looped: s.looped,
+        over: s.over,
+        degrees,
+    }
+}
+
+// One strip, from `a` to `b`.
+pub fn add_strip(posts: usize, s: Strips, a: usize, b: usize) -> Strips
+    requires { ⌜ posts ≤ 64 ⌝ }
+    ensures { λ r. ⌜ r ≡ addStrip posts a b s ⌝ }
+{
+    let first = add_end(posts, s, a);
+    let both = add_end(posts, first, b);
+    if a == b {
+        let degrees = both.degrees;
+        return Strips {
+            stray: both.stray,
+            looped: true,
+            over: both.over,
+            degrees,
+        };
+    }
+    both
+}
+
+// The strips of `rest` after those that `s` is the state of.
+pub fn go_on(posts: usize, s: Strips, rest: &[u8]) -> Strips
+    requires { ⌜ posts ≤ 64 ⌝ }
+    ensures { λ r. ⌜ GoneOn posts s (now (rest .entry)) r ⌝ }
+{
+    let mut r = s;
+    let mut i = 0;
+    while rest.len() - i > 1 {
+        let a = wide(rest[i]);
+        let b = wide(rest[i + 1]);
+        r = add_strip(posts, r, a, b);
+        i += 2;
+    }
+    r
+}
+
+// 9, 10 or 11, the first that was met, or 0.
+pub fn answer(s: Strips) -> u8
+    ensures { λ r. ⌜ Answered s r ⌝ }
+{
+    if s.stray {
+        return 9;
+    }
+    if s.looped {
+        return 10;
+    }
+    if s.over {
+        return 11;
+    }
+    0
+}
