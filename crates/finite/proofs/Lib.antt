@@ -1,4 +1,4 @@
--- Mathematics that several crates use: tests, sums, members of lists, the pigeonhole, orbits, tables.
+-- Mathematics that several crates use: tests, sums, members of lists, the pigeonhole, orbits, tables, lent parts of lists.
 pub mod Tests
 pub mod Order
 pub mod Sums
@@ -6,3 +6,4 @@ pub mod Members
 pub mod Pigeonhole
 pub mod Orbit
 pub mod Tables
+pub mod Lent

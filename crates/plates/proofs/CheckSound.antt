@@ -7,7 +7,7 @@ use native.Mathlib.Omega.{arith}
 use lib.Dec.{eqb, lit<}
 use lib.ListN.{length}
 use borrow.Author.Tests.{eqb-true, eqb-false, eq-eqb, ne-eqb, leb-true}
-use Rattle.finite.proofs.Tests.{and-right}
+use Rattle.finite.proofs.Tests.{and-right, first-some, first-assoc}
 use Rattle.fields.specs.Says.{bytesOf}
 use Rattle.fields.specs.declared.Fields.{Fields}
 use Rattle.plates.specs.declared.Verdict.{Verdict}
@@ -19,11 +19,7 @@ use Rattle.plates.specs.Read.{WalkedFile, shapeFileFault}
 use Rattle.shapes.specs.Judge.{judgement}
 use Rattle.plates.specs.Checks.{refusedVerdict, verdictOf, Judged}
 use Rattle.plates.proofs.Contents.{all-laid, all-there}
-use Rattle.plates.proofs.HeldLists.{walked-content, first-some}
-
-first-assoc : (a b c : ℕ) → firstOf (firstOf a b) c ≡ firstOf a (firstOf b c)
-first-assoc zero b c = refl
-first-assoc (suc a) b c = refl
+use Rattle.plates.proofs.HeldLists.{walked-content}
 
 -- places in turn: the list, the shape file, the verdict
 module _ (s t : List ℕ) where
@@ -47,11 +43,11 @@ module _ (s t : List ℕ) where
       let e19 = when (not (anglesOk a)) 19 in
       let e20 = when (not (postsOk (p .posts) 0 p a)) 20 in
       let e21 = when (not (facesOk p a (shapeOf p a r .words) (faces p))) 21 in
-      ap (firstOf (listFault s)) (sym (
-      first-assoc e1 (firstOf e17 e18) judged-then
+      ap (firstOf (listFault s)) (
+      ap (λ (k : ℕ). firstOf e1 (firstOf e17 (firstOf e18 k))) (ap (firstOf e19) (first-assoc e20 e21 last) ∙ first-assoc e19 (firstOf e20 e21) last)
       ∙ ap (firstOf e1) (first-assoc e17 e18 judged-then)
-      ∙ ap (λ (k : ℕ). firstOf e1 (firstOf e17 (firstOf e18 k))) (first-assoc e19 (firstOf e20 e21) last ∙ ap (firstOf e19) (first-assoc e20 e21 last))
-      ))
+      ∙ first-assoc e1 (firstOf e17 e18) judged-then
+      )
 
   refused-with : (e : ℕ) → (e ≡ 0 → ⊥) → CheckWith e s t (refusedVerdict e)
   refused-with zero n = absurd (n refl)

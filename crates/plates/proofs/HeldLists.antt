@@ -1,12 +1,13 @@
 -- The slots of a list that passed the walk hold its plate, and what is read is the list's plate or its refusal. Assumes nothing.
-use mathlib.Core.Path.{_≡_, refl, sym, ap, subst, _∙_}
+use mathlib.Core.Path.{_≡_, sym, ap, subst, _∙_}
 use mathlib.Core.Bool.{Bool, false}
 use mathlib.Core.List.{List, []}
-use Prim.Native.Nat.{ℕ, zero, suc, _%_, _≤_, _<_}
+use Prim.Native.Nat.{ℕ, _%_, _≤_, _<_}
 use native.Mathlib.Omega.{arith}
 use lib.Dec.{eqb, lit<}
 use lib.ListN.{length, getD}
 use borrow.Author.Tests.{eq-eqb, ne-eqb}
+use Rattle.finite.proofs.Tests.{first-some}
 use Rattle.fields.specs.Rules.{tagAt}
 use Rattle.fields.specs.Says.{kept, Holds, Within, bytesOf}
 use Rattle.fields.specs.declared.Fields.{Fields}
@@ -50,10 +51,6 @@ module _ {s : List ℕ} {f : Fields} (w : Walked s f) where
       let order = c ∙ walked-content w 3 (lit< tt) in
       let outer = d ∙ ap (λ (l : List ℕ). getD l 0 0) (walked-content w 4 (lit< tt)) in
       λ i. plate (posts i) (ends i) (order i) (outer i)
-
-pub first-some : (a b : ℕ) → (a ≡ 0 → ⊥) → firstOf a b ≡ a
-first-some zero b n = absurd (n refl)
-first-some (suc a) b n = refl
 
 module _ {s : List ℕ} {r : ListRead} where
   refused-reads : (e : ℕ) → listFault s ≡ e → (e ≡ 0 → ⊥) → (r .number ≡ e) × ListRefused e r → ReadsList s r

@@ -7,14 +7,14 @@ use native.Mathlib.Omega.{arith}
 use lib.Dec.{eqb, lit<}
 use lib.ListN.{length}
 use borrow.Author.Tests.{eqb-true, eq-eqb, ne-eqb}
-use Rattle.finite.proofs.Tests.{and-left, and-right, and-both, not-true-false}
+use Rattle.finite.proofs.Tests.{and-left, and-right, and-both, not-true-false, first-some}
 use Rattle.fields.specs.Says.{Holds, bytesOf, refusedBy}
 use Rattle.fields.specs.declared.Fields.{Fields}
 use Rattle.plates.specs.Plates.{pickT, darts}
 use Rattle.plates.specs.Files.{contentOf, walkAll, plateOf}
 use Rattle.plates.specs.Says.{word, anglesIn, rightsIn}
 use Rattle.plates.specs.Read.{WalkedFile, Walked, shapeFileFault, ShapeHeld, ReadsShape}
-use Rattle.plates.proofs.HeldLists.{walked-content, first-some}
+use Rattle.plates.proofs.HeldLists.{walked-content}
 use Rattle.plates.proofs.FileRows.{ends-many}
 
 module _ {s t : List ℕ} {g : Fields} where

@@ -4,12 +4,9 @@ use mathlib.Core.List.{List}
 use Prim.Native.Nat.{ℕ, _-_, _≤_, _<_}
 use native.Mathlib.Omega.{arith}
 use lib.ListN.{length, getD, take, drop, length-drop}
-use lib.Seq.{take-all, length-take-le}
+use lib.Seq.{length-take-le}
+use Rattle.finite.proofs.Lent.{rest-lent}
 use Rattle.shapes.specs.BestOf.{Small}
-
--- the rest of a list, as it is lent
-pub rest-lent : (s : List ℕ) (from : ℕ) → take (length s - from) (drop from s) ≡ drop from s
-rest-lent s from = take-all (length s - from) (drop from s) (omega (arith, length-drop from s))
 
 -- few numbers, each a byte
 abbrev Bytes : List ℕ → Type 0

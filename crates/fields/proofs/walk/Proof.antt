@@ -1,11 +1,10 @@
 -- `fields::walk` holds what the walk over the file gives. The invariant: what is left to walk gives the file's answer. Assumes nothing.
-use mathlib.Core.Path.{_≡_, sym, ap, _∙_}
+use mathlib.Core.Path.{sym, ap, _∙_}
 use mathlib.Core.Bool.{true}
-use mathlib.Core.List.{List}
-use Prim.Native.Nat.{ℕ, _+_, _-_, _≤_, _<_}
+use Prim.Native.Nat.{_+_, _-_, _≤_, _<_}
 use native.Mathlib.Omega.{arith}
-use lib.ListN.{length, take, drop, set, length-drop}
-use lib.Seq.{take-all}
+use lib.ListN.{length, set}
+use Rattle.finite.proofs.Lent.{rest-lent}
 use Rattle.fields.specs.Rules.{frontOf}
 use borrow.Author.Needs.{needs}
 use Rattle.fields.proofs.Walked.{Going, going-start, going-fault, going-met, going-short, going-done}
@@ -41,10 +40,6 @@ enum-known-front c = search needs
 
 refused-requires : tie.Need-refused-requires Inv-loop μ-loop
 refused-requires c κs = search needs
-
--- what `step` is lent is the rest of the file
-rest-lent : (s : List ℕ) (next : ℕ) → take (length s - next) (drop next s) ≡ drop next s
-rest-lent s next = take-all (length s - next) (drop next s) (omega (arith, length-drop next s))
 
 returns : tie.Need-returns Inv-loop μ-loop
 returns c =

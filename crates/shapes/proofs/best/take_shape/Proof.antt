@@ -5,7 +5,8 @@ use Prim.Native.Nat.{ℕ}
 use denote.Ref.{now}
 use lib.ListN.{getD}
 use Rattle.finite.specs.Tables.{Table}
-use Rattle.shapes.proofs.Halves.{first-long, first-fits, rest-fits, rest-lent}
+use Rattle.finite.proofs.Lent.{rest-lent}
+use Rattle.shapes.proofs.Halves.{first-long, first-fits, rest-fits}
 use borrow.Author.Needs.{needs}
 use Rattle.shapes.proofs.best.take_shape.Statement.{statement}
 use Rattle.shapes.proofs.best.take_shape.Tie as tie
