@@ -2,7 +2,7 @@
 ghost use mathlib.Core.Path.{_≡_};
 ghost use Rattle.fields.specs.Says.{refusedBy};
 ghost use Rattle.embedding.specs.Read.{blank, Reads};
-ghost use Rattle.plates.specs.Files.{listFault, plateOf};
+ghost use Rattle.plates.specs.Files.{plateOf};
 ghost use Rattle.plates.specs.Read.{Walked, ListRefused, ReadsList, ReadsShape};
 use embedding::Plate;
 use embedding::Reading;

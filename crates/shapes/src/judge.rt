@@ -4,7 +4,7 @@ ghost use mathlib.Core.Bool.{true};
 ghost use Prim.Native.Nat.{_≤_, _<_};
 ghost use lib.ListN.{length, getD};
 ghost use Rattle.finite.specs.Tables.{Table};
-ghost use Rattle.embedding.specs.Plates.{Plate as PlateOf, twin, allBelow, faces};
+ghost use Rattle.embedding.specs.Plates.{Plate as PlateOf, allBelow, faces};
 ghost use Rattle.embedding.specs.Read.{Stands};
 ghost use Rattle.shapes.specs.Shapes.{anglesOk, postsOk, facesOk, shapeOf};
 ghost use Rattle.shapes.specs.Claims.{Standing, Accepted};

@@ -4,7 +4,7 @@ ghost use Prim.Native.Nat.{_+_, _<_, _≤_};
 ghost use lib.ListN.{length};
 ghost use Rattle.finite.specs.Tables.{Table};
 ghost use Rattle.flow.specs.Network.{network};
-ghost use Rattle.embedding.specs.Plates.{Plate as PlateOf, twin};
+ghost use Rattle.embedding.specs.Plates.{Plate as PlateOf};
 ghost use Rattle.embedding.specs.Read.{Stands};
 ghost use Rattle.shapes.specs.Claims.{Standing, Accepted};
 ghost use Rattle.shapes.specs.NetworkOf.{networkOf};

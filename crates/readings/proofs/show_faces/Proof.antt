@@ -1,6 +1,5 @@
 -- `show_faces`: a loop over the faces.
 use Prim.Native.Nat.{_-_, _≤_}
-use native.Mathlib.Omega.{arith}
 use borrow.Author.Needs.{needs}
 use Rattle.readings.proofs.show_faces.Statement.{statement}
 use Rattle.readings.proofs.show_faces.Tie as tie
