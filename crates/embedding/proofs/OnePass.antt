@@ -1,18 +1,20 @@
--- The strips gone over once: the pass goes on after any strip, its state holds what the definitions say of the whole field, and so its answer is theirs.
-use mathlib.Core.Path.{_≡_, refl, sym, ap, subst, _∙_}
+-- The strips gone over once: stopped after any strip, the pass goes on to the state of the whole field; the state holds what the definitions say of the field, so that its answer is theirs.
+use mathlib.Core.Path.{_≡_, refl, sym, ap, ap₂, subst, _∙_}
 use mathlib.Core.Bool.{Bool, true, false, _&&_, _||_, not, true≢false, false≢true}
 use mathlib.Core.List.{List, [], _∷_, _++_}
 use mathlib.Core.Logic.{⊎-elim}
 use Prim.Native.Nat.{ℕ, _+_, _*_, _%_, _≤_, _<_, min}
+use native.Mathlib.Decide.{decLe}
 use native.Mathlib.Omega.{arith}
 use borrow.Author.Tests.{eq-eqb, ne-eqb, ltb-true, ltb-false, not-false}
 use lib.Dec.{eqb, ltb}
-use lib.ListN.{length, getD, set, take, drop, replicate, length-take, length-drop, length-replicate, getD-replicate, take-append-drop}
+use lib.ListN.{length, getD, set, take, drop, replicate, length-take, length-drop, length-replicate, getD-replicate, take-append-drop, drop-of-length-le}
+use lib.Seq.{take-all}
 use Rattle.finite.specs.Tables.{Table, upTo}
 use Rattle.finite.proofs.Tables.{table-cong, table-set, up-below, up-cong}
 use Rattle.finite.proofs.Tests.{equal-or-not, or-right, first-none, first-assoc, when-none}
 use Rattle.embedding.specs.Plates.{pick, firstOf, when, Plate, darts, degreeFrom, degree, allBelow, someLoop, overFour, plateFault}
-use Rattle.embedding.specs.Pass.{noStrips, addEnd, addStrip, goOn, stateOf, firstMet, answerOf, stripsFault, lateFault, passFault, GoneOn, Answered}
+use Rattle.embedding.specs.Pass.{noStrips, addEnd, addStrip, goOn, stateOf, stoppedAfter, firstMet, answerOf, stripsFault, earlyFault, lateFault, passFault, GoneOn, Answered}
 use Rattle.embedding.specs.Steps.{Few}
 use Rattle.embedding.specs.declared.strips.Strips.{Strips}
 use Rattle.embedding.proofs.Fronts.{two-front}
@@ -27,11 +29,15 @@ go-split n s (a ∷ (b ∷ front)) rest e = go-split n (addStrip n a b s) front 
 pub goes-on : (n : ℕ) (front rest : List ℕ) → length front % 2 ≡ 0 → goOn n (stateOf n front) rest ≡ stateOf n (front ++ rest)
 goes-on n front rest e = sym (go-split n noStrips front rest e)
 
--- after k strips
-pub goes-on-after : (n k : ℕ) (es : List ℕ) → 2 * k ≤ length es → goOn n (stateOf n (take (2 * k) es)) (drop (2 * k) es) ≡ stateOf n es
-goes-on-after n k es l =
-    goes-on n (take (2 * k) es) (drop (2 * k) es) (let q : length (take (2 * k) es) ≡ 2 * k = omega (arith, length-take (2 * k) es) in omega arith)
-    ∙ ap (stateOf n) (take-append-drop (2 * k) es)
+-- after k strips, or after all of them where there are fewer
+pub stopped-after : (n k : ℕ) (es : List ℕ) → stoppedAfter k n es ≡ stateOf n es
+stopped-after n k es = go (decLe (2 * k) (length es))
+  where
+    go : Dec (2 * k ≤ length es) → stoppedAfter k n es ≡ stateOf n es
+    go (yes l) =
+        goes-on n (take (2 * k) es) (drop (2 * k) es) (let q : length (take (2 * k) es) ≡ 2 * k = omega (arith, length-take (2 * k) es) in omega arith)
+        ∙ ap (stateOf n) (take-append-drop (2 * k) es)
+    go (no m) = let all : length es ≤ 2 * k = omega arith in ap₂ (λ (a b : List ℕ). goOn n (stateOf n a) b) (take-all (2 * k) es all) (drop-of-length-le es all)
 
 -- both ends of a strip
 pub ends-added : (n a b : ℕ) (s first both : Strips) → first ≡ addEnd n a s → both ≡ addEnd n b first → both ≡ addEnd n b (addEnd n a s)
@@ -206,8 +212,8 @@ module _ (p : Plate) (even : darts p % 2 ≡ 0) where
         ∙ ap (firstMet (not (allBelow (p .posts) (p .ends))) (someLoop (p .ends))) over-is
 
     -- also where it was stopped after any strip
-    pub answered-after : (k : ℕ) → 2 * k ≤ darts p → answerOf (goOn (p .posts) (stateOf (p .posts) (take (2 * k) (p .ends))) (drop (2 * k) (p .ends))) ≡ stripsFault p
-    answered-after k l = ap answerOf (goes-on-after (p .posts) k (p .ends) l) ∙ answered
+    pub answered-after : (k : ℕ) → answerOf (stoppedAfter k (p .posts) (p .ends)) ≡ stripsFault p
+    answered-after k = ap answerOf (stopped-after (p .posts) k (p .ends)) ∙ answered
 
     -- no post over four: the degrees
     pub strips-few : stripsFault p ≡ 0 → Few (p .posts) (p .ends) (state .degrees)
@@ -221,28 +227,37 @@ module _ (p : Plate) (even : darts p % 2 ≡ 0) where
 pub answers : (s : Strips) (r : ℕ) → r ≡ answerOf s → Answered s r
 answers s r e = record { number = e; whole = λ p few even q. e ∙ ap answerOf q ∙ answered p even few }
 
--- 9, 10 and 11 of a plate's fault, put together
-pub fault-parts : (p : Plate) → plateFault p ≡ firstOf (when (eqb (p .posts) 0 || ltb 64 (p .posts)) 7) (firstOf (when (eqb (darts p) 0) 8) (firstOf (stripsFault p) (lateFault p)))
+-- a plate's fault in three parts: before the strips, of the strips, after them
+pub fault-parts : (p : Plate) → plateFault p ≡ firstOf (earlyFault (p .posts) (p .ends)) (firstOf (stripsFault p) (lateFault p))
 fault-parts p =
-    ap (λ (r : ℕ). firstOf (when (eqb (p .posts) 0 || ltb 64 (p .posts)) 7) (firstOf (when (eqb (darts p) 0) 8) r))
-    (ap (firstOf c) (first-assoc d o (lateFault p)) ∙ first-assoc c (firstOf d o) (lateFault p))
+    ap (λ (r : ℕ). firstOf e7 (firstOf e8 r)) (ap (firstOf e9) (first-assoc e10 e11 (lateFault p)) ∙ first-assoc e9 (firstOf e10 e11) (lateFault p))
+    ∙ first-assoc e7 e8 (firstOf (stripsFault p) (lateFault p))
   where
-    c : ℕ
-    c = when (not (allBelow (p .posts) (p .ends))) 9
+    e7 : ℕ
+    e7 = when (eqb (p .posts) 0 || ltb 64 (p .posts)) 7
 
-    d : ℕ
-    d = when (someLoop (p .ends)) 10
+    e8 : ℕ
+    e8 = when (eqb (darts p) 0) 8
 
-    o : ℕ
-    o = when (overFour (p .posts) 0 p) 11
+    e9 : ℕ
+    e9 = when (not (allBelow (p .posts) (p .ends))) 9
 
--- every list is answered as before
-pub as-before : (p : Plate) → darts p % 2 ≡ 0 → passFault p ≡ plateFault p
-as-before p even = go (ltb 64 (p .posts)) refl ∙ sym (fault-parts p)
+    e10 : ℕ
+    e10 = when (someLoop (p .ends)) 10
+
+    e11 : ℕ
+    e11 = when (overFour (p .posts) 0 p) 11
+
+-- the fault of a plate is the same with the pass, wherever that was stopped; over 64 posts the pass is not asked
+pub pass-fault : (k : ℕ) (p : Plate) → darts p % 2 ≡ 0 → passFault k p ≡ plateFault p
+pass-fault k p even = go (ltb 64 (p .posts)) refl ∙ sym (fault-parts p)
   where
-    first-seven : (x y : ℕ) → ltb 64 (p .posts) ≡ true → firstOf (when (eqb (p .posts) 0 || ltb 64 (p .posts)) 7) x ≡ firstOf (when (eqb (p .posts) 0 || ltb 64 (p .posts)) 7) y
-    first-seven x y e = rw (or-right (eqb (p .posts) 0) (ltb 64 (p .posts)) e)
+    withPass : ℕ → ℕ
+    withPass a = firstOf (earlyFault (p .posts) (p .ends)) (firstOf a (lateFault p))
 
-    go : (b : Bool) → ltb 64 (p .posts) ≡ b → passFault p ≡ firstOf (when (eqb (p .posts) 0 || ltb 64 (p .posts)) 7) (firstOf (when (eqb (darts p) 0) 8) (firstOf (stripsFault p) (lateFault p)))
-    go true e = first-seven _ _ e
-    go false e = ap (λ (r : ℕ). firstOf (when (eqb (p .posts) 0 || ltb 64 (p .posts)) 7) (firstOf (when (eqb (darts p) 0) 8) (firstOf r (lateFault p)))) (answered p even (ltb-false 64 (p .posts) e))
+    seven : (x y : ℕ) → ltb 64 (p .posts) ≡ true → withPass x ≡ withPass y
+    seven x y e = rw (or-right (eqb (p .posts) 0) (ltb 64 (p .posts)) e)
+
+    go : (b : Bool) → ltb 64 (p .posts) ≡ b → withPass (answerOf (stoppedAfter k (p .posts) (p .ends))) ≡ withPass (stripsFault p)
+    go true e = seven (answerOf (stoppedAfter k (p .posts) (p .ends))) (stripsFault p) e
+    go false e = ap withPass (answered-after p even (ltb-false 64 (p .posts) e) k)

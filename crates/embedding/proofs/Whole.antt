@@ -2,7 +2,7 @@
 use mathlib.Core.Path.{_≡_, refl, sym, ap, ap₂, subst, _∙_}
 use mathlib.Core.Bool.{Bool, true, false, _&&_, _||_, not}
 use mathlib.Core.List.{List, [], _∷_}
-use Prim.Native.Nat.{ℕ, zero, suc, _+_, _*_, _/_, _%_, _≤_, _<_}
+use Prim.Native.Nat.{ℕ, _+_, _*_, _/_, _%_, _≤_, _<_}
 use native.Mathlib.Omega.{arith}
 use borrow.Author.Tests.{eqb-false, eq-eqb, ne-eqb, ltb-false, le-leb, lt-leb}
 use lib.Dec.{eqb, ltb}
@@ -13,11 +13,11 @@ use Rattle.finite.specs.Walks.{OneToOne}
 use Rattle.finite.proofs.Members.{all-of}
 use Rattle.finite.proofs.Pigeonhole.{at-most}
 use Rattle.finite.proofs.Tables.{table-cong, up-below, up-cong}
-use Rattle.finite.proofs.Tests.{or-left-false, or-right-false, first-none, first-assoc, when-none}
+use Rattle.finite.proofs.Tests.{or-left-false, or-right-false, first-none, first-some, when-none}
 use Rattle.embedding.specs.Plates.{pickT, firstOf, when, Plate, plate, darts, twin, endsAt, partOf, allBelow, someLoop, partsOk, lastOf, justBefore, after, faces, reach, connected, isPlane, plateFault}
 use Rattle.embedding.specs.Steps.{Few, placeIn, afterIn, nextOf}
-use Rattle.embedding.specs.Pass.{stripsFault, lateFault}
-use Rattle.embedding.specs.Read.{Follows, faceSize, Stands, blank, earlyFault, Past, refusal, Reads}
+use Rattle.embedding.specs.Pass.{stripsFault, earlyFault, lateFault}
+use Rattle.embedding.specs.Read.{Follows, faceSize, Stands, blank, Past, refusal, Reads}
 use Rattle.embedding.specs.declared.Plate.{Plate as Held}
 use Rattle.embedding.proofs.Faces.{faces-distinct, faces-below}
 use Rattle.embedding.proofs.Counting.{few-at, few-most}
@@ -31,15 +31,8 @@ refused p e n h = record { number = sym h; held = subst (λ (b : Bool). pickT b 
 accepted : (p : Plate) (q : Held) → plateFault p ≡ 0 → Stands q p → Reads p (record { number = 0; plate = q })
 accepted p q h s = record { number = sym h; held = subst (λ (b : Bool). pickT b (Stands q p) (q ≡ blank)) (sym (eq-eqb (plateFault p) 0 h)) s }
 
-first-met : (a b : ℕ) → (a ≡ 0 → ⊥) → firstOf a b ≡ a
-first-met zero b m = absurd (m refl)
-first-met (suc a) b m = refl
-
-early-parts : (p : Plate) → plateFault p ≡ firstOf (earlyFault (p .posts) (p .ends)) (firstOf (stripsFault p) (lateFault p))
-early-parts p = fault-parts p ∙ first-assoc (when (eqb (p .posts) 0 || ltb 64 (p .posts)) 7) (when (eqb (darts p) 0) 8) (firstOf (stripsFault p) (lateFault p))
-
 pub early-refused : (p : Plate) (e : ℕ) → e ≡ earlyFault (p .posts) (p .ends) → (e ≡ 0 → ⊥) → Reads p (refusal e)
-early-refused p e q n = refused p e n (early-parts p ∙ ap (λ (a : ℕ). firstOf a (firstOf (stripsFault p) (lateFault p))) (sym q) ∙ first-met e (firstOf (stripsFault p) (lateFault p)) n)
+early-refused p e q n = refused p e n (fault-parts p ∙ ap (λ (a : ℕ). firstOf a (firstOf (stripsFault p) (lateFault p))) (sym q) ∙ first-some e (firstOf (stripsFault p) (lateFault p)) n)
 
 -- refusals 7 and 8 not met
 pub record Early (n : ℕ) : Type 0 where
@@ -53,10 +46,10 @@ early n e h =
 
 module _ (p : Plate) (none : earlyFault (p .posts) (p .ends) ≡ 0) where
   past-8 : plateFault p ≡ firstOf (stripsFault p) (lateFault p)
-  past-8 = early-parts p ∙ ap (λ (a : ℕ). firstOf a (firstOf (stripsFault p) (lateFault p))) none
+  past-8 = fault-parts p ∙ ap (λ (a : ℕ). firstOf a (firstOf (stripsFault p) (lateFault p))) none
 
   pub strips-refused : (e : ℕ) → e ≡ stripsFault p → (e ≡ 0 → ⊥) → Reads p (refusal e)
-  strips-refused e q n = refused p e n (past-8 ∙ ap (λ (a : ℕ). firstOf a (lateFault p)) (sym q) ∙ first-met e (lateFault p) n)
+  strips-refused e q n = refused p e n (past-8 ∙ ap (λ (a : ℕ). firstOf a (lateFault p)) (sym q) ∙ first-some e (lateFault p) n)
 
 -- refusals 7 to 11 not met
 module _ (p : Plate) {degrees : List ℕ} (h : Past (p .posts) (p .ends) degrees) where

@@ -1,10 +1,10 @@
--- One pass over the strips: its state, one strip more, what is left, the answer.
+-- One pass over the strips: its state, one strip more, what is left, the answer; and a plate's fault from the answer of the pass and from what is tried before and after it.
 use mathlib.Core.Path.{_≡_}
 use mathlib.Core.Bool.{Bool, false, _&&_, _||_, not}
 use mathlib.Core.List.{List, [], _∷_, _++_}
-use Prim.Native.Nat.{ℕ, _+_, _%_, _≤_}
+use Prim.Native.Nat.{ℕ, _+_, _*_, _%_, _≤_}
 use lib.Dec.{eqb, ltb, leb}
-use lib.ListN.{length, getD, set, replicate}
+use lib.ListN.{length, getD, take, drop, set, replicate}
 use Rattle.embedding.specs.Plates.{pick, firstOf, when, allBelow, someLoop, overFour, Plate, darts, partsOk, connected, isPlane}
 use Rattle.embedding.specs.declared.strips.Strips.{Strips}
 
@@ -36,6 +36,10 @@ goOn n s (a ∷ (b ∷ es)) = goOn n (addStrip n a b s) es
 abbrev pub stateOf : ℕ → List ℕ → Strips
 stateOf n es = goOn n noStrips es
 
+-- the pass stopped after k strips, and gone on with over the rest alone
+abbrev pub stoppedAfter : ℕ → ℕ → List ℕ → Strips
+stoppedAfter k n es = goOn n (stateOf n (take (2 * k) es)) (drop (2 * k) es)
+
 -- 9, 10, 11, the first that was met
 abbrev pub firstMet : Bool → Bool → Bool → ℕ
 firstMet stray looped over = firstOf (when stray 9) (firstOf (when looped 10) (when over 11))
@@ -47,13 +51,17 @@ answerOf s = firstMet (s .stray) (s .looped) (s .over)
 abbrev pub stripsFault : Plate → ℕ
 stripsFault p = firstMet (not (allBelow (p .posts) (p .ends))) (someLoop (p .ends)) (overFour (p .posts) 0 p)
 
+-- 7 and 8, of n posts and the strip ends e
+abbrev pub earlyFault : ℕ → List ℕ → ℕ
+earlyFault n e = firstOf (when (eqb n 0 || ltb 64 n) 7) (when (eqb (length e) 0) 8)
+
 -- 12 to 15
 abbrev pub lateFault : Plate → ℕ
 lateFault p = firstOf (when (not (eqb (length (p .order)) (darts p) && partsOk (p .posts) 0 p)) 12) (firstOf (when (leb (darts p) (p .outer)) 13) (firstOf (when (not (connected p)) 14) (when (not (isPlane p)) 15)))
 
--- `plateFault` with the answer of the pass for its 9, 10 and 11
-abbrev pub passFault : Plate → ℕ
-passFault p = firstOf (when (eqb (p .posts) 0 || ltb 64 (p .posts)) 7) (firstOf (when (eqb (darts p) 0) 8) (firstOf (answerOf (stateOf (p .posts) (p .ends))) (lateFault p)))
+-- a plate's fault, 9, 10 and 11 answered by the pass, stopped after k strips and gone on with
+abbrev pub passFault : ℕ → Plate → ℕ
+passFault k p = firstOf (earlyFault (p .posts) (p .ends)) (firstOf (answerOf (stoppedAfter k (p .posts) (p .ends))) (lateFault p))
 
 -- r is s gone on with over the strips of rest; where s is the state after a front of whole strips, r is that after both
 pub record GoneOn (n : ℕ) (s : Strips) (rest : List ℕ) (r : Strips) : Type 0 where

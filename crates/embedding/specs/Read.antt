@@ -1,14 +1,14 @@
 -- What a plate that was read holds.
 use mathlib.Core.Path.{_≡_}
-use mathlib.Core.Bool.{true, false, _||_}
+use mathlib.Core.Bool.{true, false}
 use mathlib.Core.List.{List, [], _∷_}
 use Prim.Native.Nat.{ℕ, suc, _+_, _≤_, _<_}
 use lib.Dec.{eqb, ltb}
 use lib.ListN.{length, getD, replicate}
 use Rattle.finite.specs.Tables.{Table, upTo}
 use Rattle.finite.specs.Walks.{lowest}
-use Rattle.embedding.specs.Plates.{pick, pickT, firstOf, when, Plate, plate, darts, degree, after, faceOf, facesFrom, faces, plateFault}
-use Rattle.embedding.specs.Pass.{stripsFault}
+use Rattle.embedding.specs.Plates.{pick, pickT, Plate, plate, darts, degree, after, faceOf, facesFrom, faces, plateFault}
+use Rattle.embedding.specs.Pass.{stripsFault, earlyFault}
 use Rattle.embedding.specs.Steps.{Few, placeIn}
 use Rattle.embedding.specs.declared.Labelled.{Labelled}
 use Rattle.embedding.specs.declared.Plate.{Plate as Held}
@@ -81,10 +81,6 @@ pub record Assembled (n : ℕ) (e places degrees : List ℕ) (outer : ℕ) (next
   pub face-numbers : q .face ≡ l .face
   pub face-count : q .faces ≡ l .faces
   pub face-sizes : Table 66 (λ i. getD (l .sizes) i 0) (q .sizes)
-
--- refusals 7 and 8, of n posts and the strip ends e
-abbrev pub earlyFault : ℕ → List ℕ → ℕ
-earlyFault n e = firstOf (when (eqb n 0 || ltb 64 n) 7) (when (eqb (length e) 0) 8)
 
 -- refusals 7 to 11 not met, and the degrees
 pub record Past (n : ℕ) (e degrees : List ℕ) : Type 0 where

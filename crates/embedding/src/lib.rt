@@ -7,8 +7,9 @@ ghost use lib.ListN.{length, getD};
 ghost use Rattle.finite.specs.Tables.{Table, upTo};
 ghost use Rattle.finite.specs.Walks.{OneToOne};
 ghost use Rattle.embedding.specs.Plates.{Plate as PlateOf, reach, isIn, twin, lastOf, justBefore, allBelow, distinct, allLeave, plate};
+ghost use Rattle.embedding.specs.Pass.{earlyFault};
 ghost use Rattle.embedding.specs.Steps.{Few, PostRead, OrderRead, afterIn, Joined, RoundMade, nextOf, FaceLabelled};
-ghost use Rattle.embedding.specs.Read.{Follows, Fitting, OneLabelled, FacesLabelled, earlyFault, Past, refusal, Assembled, Reads};
+ghost use Rattle.embedding.specs.Read.{Follows, Fitting, OneLabelled, FacesLabelled, Past, refusal, Assembled, Reads};
 
 pub mod strips;
 

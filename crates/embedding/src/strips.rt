@@ -29,48 +29,30 @@ fn add_end(posts: usize, s: Strips, v: usize) -> Strips
     requires { ⌜ posts ≤ 64 ⌝ }
     ensures { λ r. ⌜ r ≡ addEnd posts v s ⌝ }
 {
-    let mut degrees = s.degrees;
+    let mut r = s;
     if posts <= v {
-        return Strips {
-            stray: true,
-            looped: s.looped,
-            over: s.over,
-            degrees,
-        };
+        r.stray = true;
+        return r;
     }
-    let count = degrees[v];
+    let count = r.degrees[v];
     if 4 <= count {
-        return Strips {
-            stray: s.stray,
-            looped: s.looped,
-            over: true,
-            degrees,
-        };
+        r.over = true;
+        return r;
     }
-    degrees[v] = count + 1;
-    Strips {
-        stray: s.stray,
-        looped: s.looped,
-        over: s.over,
-        degrees,
-    }
+    r.degrees[v] = count + 1;
+    r
 }
 
 // One strip, from `a` to `b`.
-pub fn add_strip(posts: usize, s: Strips, a: usize, b: usize) -> Strips
+fn add_strip(posts: usize, s: Strips, a: usize, b: usize) -> Strips
     requires { ⌜ posts ≤ 64 ⌝ }
     ensures { λ r. ⌜ r ≡ addStrip posts a b s ⌝ }
 {
     let first = add_end(posts, s, a);
-    let both = add_end(posts, first, b);
+    let mut both = add_end(posts, first, b);
     if a == b {
-        let degrees = both.degrees;
-        return Strips {
-            stray: both.stray,
-            looped: true,
-            over: both.over,
-            degrees,
-        };
+        both.looped = true;
+        return both;
     }
     both
 }

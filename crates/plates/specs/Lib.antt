@@ -2,6 +2,7 @@
 pub mod Plates
 pub mod Shapes
 pub mod Files
+pub mod Pass
 pub mod Claims
 pub mod Says
 pub mod Read

@@ -7,29 +7,27 @@ use Rattle.embedding.proofs.strips.add_end.Tie as tie
 
 returns : tie.Need-returns
 returns c =
-    let args = c .before .before .args in
+    let args = c .before .args in
     rw (le-ltb (args .v) (args .posts) (c .if1 .taken))
 
-array-read-count : tie.Need-array-read-count
-array-read-count c = search needs
+element-copy-out-count : tie.Need-element-copy-out-count
+element-copy-out-count c = search needs
 
 returns-2 : tie.Need-returns-2
 returns-2 c =
     let args = c .before .before .before .args in
-    rw (lt-ltb (args .v) (args .posts) (c .before .if1 .left), le-ltb (getD (args .s .degrees) (args .v) 0) 4 (c .if2 .taken))
+    rw (lt-ltb (args .v) (args .posts) (c .before .before .if1 .left), le-ltb (getD (args .s .degrees) (args .v) 0) 4 (c .if2 .taken))
 
-add-degrees : tie.Need-add-degrees
-add-degrees c = search needs
+add-r : tie.Need-add-r
+add-r c = search needs
 
-array-write-degrees : tie.Need-array-write-degrees
-array-write-degrees c = search needs
+element-write-r : tie.Need-element-write-r
+element-write-r c = search needs
 
 returns-3 : tie.Need-returns-3
 returns-3 c =
     let args = c .before .before .before .args in
-    rw (lt-ltb (args .v) (args .posts) (c .before .if1 .left), lt-ltb (getD (args .s .degrees) (args .v) 0) 4 (c .if2 .left))
+    rw (lt-ltb (args .v) (args .posts) (c .before .before .if1 .left), lt-ltb (getD (args .s .degrees) (args .v) 0) 4 (c .if2 .left))
 
 pub add-end-spec : {M : Type 1} → statement M
-add-end-spec =
-    tie.close
-    (tie.spec returns array-read-count returns-2 add-degrees array-write-degrees returns-3)
+add-end-spec = tie.close (tie.spec returns element-copy-out-count returns-2 add-r element-write-r returns-3)

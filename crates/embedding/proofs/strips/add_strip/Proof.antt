@@ -21,8 +21,8 @@ both c =
 
 returns : tie.Need-returns
 returns c =
-    let args = c .before .before .before .before .args in
-    rw (eq-eqb (args .a) (args .b) (c .before .if1 .taken), both (c .before .before))
+    let args = c .before .before .before .args in
+    rw (eq-eqb (args .a) (args .b) (c .if1 .taken), both (c .before))
 
 returns-2 : tie.Need-returns-2
 returns-2 c =
