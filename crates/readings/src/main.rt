@@ -1,7 +1,10 @@
 //! Plates read: the refusal's number, or 0 with the number of faces and their degrees, by lowest dart. The expected lines were compared with those of a separate program written from document 01.
-ghost use Prim.Native.Nat.{_%_, _≤_};
 ghost use mathlib.Core.Path.{_≡_};
+ghost use mathlib.Core.List.{List};
+ghost use Prim.Native.Nat.{ℕ, _%_, _≤_};
 ghost use lib.ListN.{length};
+ghost use Rattle.embedding.specs.Plates.{plate};
+ghost use Rattle.embedding.specs.Pass.{stripsFault};
 use embedding::read_plate;
 use embedding::strips::answer;
 use embedding::strips::go_on;
@@ -36,16 +39,28 @@ fn show(label: &[u8], posts: u8, ends: &[u8], order: &[u8], outer: u8)
     }
 }
 
-// Goes over the strips of `front`, stops, goes on over those of `rest`, and writes a line: the label, the number.
-fn show_stopped(label: &[u8], posts: usize, front: &[u8], rest: &[u8])
-    requires { ⌜ posts ≤ 64 ⌝ }
+// The answer of a pass over the strips that stops after those of `ends[..at]` and goes on over the rest: that of the whole field.
+fn stopped_at(posts: usize, ends: &[u8], at: usize) -> u8
+    requires { ⌜ (posts ≤ 64) × (length (now ends) % 2 ≡ 0) × (at % 2 ≡ 0) × (at ≤ length (now ends)) ⌝ }
+    ensures { λ r. ⌜ ((o : List ℕ) (x : ℕ) → r ≡ stripsFault (plate posts (now (ends .entry)) o x)) ⌝ }
 {
-    let begun = go_on(posts, no_strips(), front);
-    let whole = go_on(posts, begun, rest);
+    let begun = go_on(posts, no_strips(), &ends[..at]);
+    let whole = go_on(posts, begun, &ends[at..]);
+    answer(whole)
+}
+
+// Writes a line: the label, then the answer of a pass that stops before the first strip, after it, and so on to the last.
+fn show_stopped(label: &[u8], posts: usize, ends: &[u8])
+    requires { ⌜ (posts ≤ 64) × (length (now ends) ≤ 256) × (length (now ends) % 2 ≡ 0) ⌝ }
+{
     io::write_all(STDOUT_FILENO, b"stopped, ");
     io::write_all(STDOUT_FILENO, label);
-    io::write_all(STDOUT_FILENO, b" ");
-    io::print_decimal(STDOUT_FILENO, answer(whole) as u64);
+    let mut at = 0;
+    while at <= ends.len() {
+        io::write_all(STDOUT_FILENO, b" ");
+        io::print_decimal(STDOUT_FILENO, stopped_at(posts, ends, at) as u64);
+        at += 2;
+    }
     io::write_all(STDOUT_FILENO, b"\n");
 }
 
@@ -175,39 +190,27 @@ fn orders() {
     );
 }
 
-// Refusals 9 to 11 by a pass that was stopped, each against the next, met in front and in the rest.
+// Refusals 9 to 11 by a pass that stops after each strip in turn: each before and behind the next, and none.
 fn stopped() {
-    show_stopped(
-        b"a strip to itself, then no post",
-        2,
-        b"\x01\x01",
-        b"\x00\x02",
-    );
-    show_stopped(
-        b"no post, then a strip to itself",
-        2,
-        b"\x02\x00",
-        b"\x01\x01",
-    );
+    show_stopped(b"a strip to itself, then no post", 2, b"\x01\x01\x00\x02");
+    show_stopped(b"no post, then a strip to itself", 2, b"\x02\x00\x01\x01");
     show_stopped(
         b"five strips, then one to itself",
         2,
+        b"\x00\x01\x00\x01\x00\x01\x00\x01\x00\x01\x01\x01",
+    );
+    show_stopped(
+        b"five strips, then no post",
+        2,
+        b"\x00\x01\x00\x01\x00\x01\x00\x01\x00\x01\x00\x02",
+    );
+    show_stopped(
+        b"five strips",
+        2,
         b"\x00\x01\x00\x01\x00\x01\x00\x01\x00\x01",
-        b"\x01\x01",
     );
-    show_stopped(
-        b"three strips, then two",
-        2,
-        b"\x00\x01\x00\x01\x00\x01",
-        b"\x00\x01\x00\x01",
-    );
-    show_stopped(
-        b"three strips, then one",
-        2,
-        b"\x00\x01\x00\x01\x00\x01",
-        b"\x00\x01",
-    );
-    show_stopped(b"no strip, then one", 2, b"", b"\x00\x01");
+    show_stopped(b"four strips", 2, b"\x00\x01\x00\x01\x00\x01\x00\x01");
+    show_stopped(b"no strip", 2, b"");
 }
 
 // Refusals 13 to 15, each against the next.
