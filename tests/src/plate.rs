@@ -29,6 +29,19 @@ pub fn twin(dart: usize) -> usize {
     dart ^ 1
 }
 
+/// A plate whose order round each post is that of its darts' numbers.
+pub fn by_number(posts: usize, strips: &[[usize; 2]], outer: usize) -> Plate {
+    let darts = 2 * strips.len();
+    let tail = |d: usize| strips[d / 2][d % 2];
+    let leaving = |post| (0..darts).filter(|&d| tail(d) == post).collect();
+    Plate {
+        posts,
+        strips: strips.to_vec(),
+        order: (0..posts).map(leaving).collect(),
+        outer,
+    }
+}
+
 impl Plate {
     pub fn darts(&self) -> usize {
         2 * self.strips.len()

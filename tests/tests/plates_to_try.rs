@@ -4,7 +4,7 @@ use plates::{check_shape, write_listing, write_shape, Refusal, Verdict};
 use plates_tests::cancelling;
 use plates_tests::compare;
 use plates_tests::files::{list_bytes, read_list};
-use plates_tests::plate::{turn, Plate, Shape};
+use plates_tests::plate::{by_number, turn, Plate, Shape};
 use plates_tests::search;
 
 const P1: [u8; 27] = [
@@ -15,19 +15,6 @@ const P1_SHAPE: [u8; 24] = [
     0x11, 0x00, 0x02, 0x00, 0x07, 0x12, 0x00, 0x02, 0x00, 0x02, 0x13, 0x00, 0x04, 0x01, 0x03, 0x03,
     0x01, 0x14, 0x00, 0x04, 0x00, 0x00, 0x00, 0x02,
 ];
-
-/// A plate whose order round each post is that of its darts' numbers.
-fn plate(posts: usize, strips: &[[usize; 2]], outer: usize) -> Plate {
-    let darts = 2 * strips.len();
-    let tail = |d: usize| strips[d / 2][d % 2];
-    let leaving = |post| (0..darts).filter(|&d| tail(d) == post).collect();
-    Plate {
-        posts,
-        strips: strips.to_vec(),
-        order: (0..posts).map(leaving).collect(),
-        outer,
-    }
-}
 
 /// Compares the library, both searches and the cancelling with the answer.
 fn try_plate(plate: &Plate, rights: &[u8], angles: &[u8]) {
@@ -88,42 +75,42 @@ fn p1_listing() {
 
 #[test]
 fn p2_triangle() {
-    let p2 = plate(3, &[[0, 1], [1, 2], [2, 0]], 1);
+    let p2 = by_number(3, &[[0, 1], [1, 2], [2, 0]], 1);
     try_plate(&p2, &[0, 0, 0, 0, 1, 0], &[1, 3, 1, 3, 1, 3]);
 }
 
 #[test]
 fn p3_square() {
-    let p3 = plate(4, &[[0, 1], [1, 2], [2, 3], [3, 0]], 1);
+    let p3 = by_number(4, &[[0, 1], [1, 2], [2, 3], [3, 0]], 1);
     try_plate(&p3, &[0; 8], &[1, 3, 1, 3, 1, 3, 1, 3]);
 }
 
 #[test]
 fn p4_one_strip() {
-    try_plate(&plate(2, &[[0, 1]], 0), &[0, 0], &[4, 4]);
+    try_plate(&by_number(2, &[[0, 1]], 0), &[0, 0], &[4, 4]);
 }
 
 #[test]
 fn p5_star() {
-    let p5 = plate(5, &[[0, 1], [0, 2], [0, 3], [0, 4]], 1);
+    let p5 = by_number(5, &[[0, 1], [0, 2], [0, 3], [0, 4]], 1);
     try_plate(&p5, &[0; 8], &[4, 1, 4, 1, 4, 1, 4, 1]);
 }
 
 #[test]
 fn p6_path() {
-    try_plate(&plate(3, &[[0, 1], [1, 2]], 1), &[0; 4], &[1, 4, 4, 3]);
+    try_plate(&by_number(3, &[[0, 1], [1, 2]], 1), &[0; 4], &[1, 4, 4, 3]);
 }
 
 #[test]
 fn p7_three_strips() {
-    let mut p7 = plate(2, &[[0, 1]; 3], 1);
+    let mut p7 = by_number(2, &[[0, 1]; 3], 1);
     p7.order = vec![vec![0, 2, 4], vec![5, 3, 1]];
     try_plate(&p7, &[2, 0, 0, 0, 0, 2], &[1, 2, 1, 1, 2, 1]);
 }
 
 #[test]
 fn p8_not_plane() {
-    let mut p8 = plate(2, &[[0, 1]; 3], 1);
+    let mut p8 = by_number(2, &[[0, 1]; 3], 1);
     p8.order = vec![vec![0, 2, 4], vec![1, 3, 5]];
     assert_eq!(p8.faces().len(), 1);
     assert_eq!(refused(&list_bytes(&p8, 7, None)), 15);
@@ -134,7 +121,7 @@ fn p8_not_plane() {
 #[test]
 fn p9_face_sums() {
     let strips = [[0, 1], [4, 0], [3, 4], [2, 3], [1, 2], [4, 1]];
-    let mut p9 = plate(5, &strips, 0);
+    let mut p9 = by_number(5, &strips, 0);
     p9.order[1] = vec![8, 1, 11];
     p9.order[4] = vec![10, 2, 5];
     let faces = [vec![0, 8, 6, 4, 2], vec![1, 3, 10], vec![5, 7, 9, 11]];
@@ -162,16 +149,19 @@ fn p10_empty_input() {
 #[test]
 fn p10_posts() {
     let path: Vec<[usize; 2]> = (0..63).map(|post| [post, post + 1]).collect();
-    assert_eq!(refused(&list_bytes(&plate(64, &path, 0), 7, None)), 0);
+    assert_eq!(refused(&list_bytes(&by_number(64, &path, 0), 7, None)), 0);
     let path: Vec<[usize; 2]> = (0..64).map(|post| [post, post + 1]).collect();
-    assert_eq!(refused(&list_bytes(&plate(65, &path, 0), 7, None)), 7);
+    assert_eq!(refused(&list_bytes(&by_number(65, &path, 0), 7, None)), 7);
 }
 
 #[test]
 fn p10_strips_at_a_post() {
     let star: Vec<[usize; 2]> = (1..6).map(|post| [0, post]).collect();
-    assert_eq!(refused(&list_bytes(&plate(5, &star[..4], 0), 7, None)), 0);
-    assert_eq!(refused(&list_bytes(&plate(6, &star, 0), 7, None)), 11);
+    assert_eq!(
+        refused(&list_bytes(&by_number(5, &star[..4], 0), 7, None)),
+        0
+    );
+    assert_eq!(refused(&list_bytes(&by_number(6, &star, 0), 7, None)), 11);
 }
 
 #[test]
