@@ -11,7 +11,7 @@ use lib.ListN.{length, getD, take, drop, set, length-set, replicate, length-repl
 use lib.Seq.{getD-set-same, getD-set-other}
 use Rattle.finite.specs.Tables.{Table, upTo}
 use Rattle.finite.proofs.Tables.{table-cong, up-below, up-from, up-more}
-use Rattle.finite.proofs.Tests.{equal-or-not}
+use Rattle.finite.proofs.Tests.{equal-or-not, and-assoc}
 use Rattle.embedding.specs.Plates.{Plate, plate, degreeFrom, degree, before, partOf, distinct, allLeave, partsOk}
 use Rattle.embedding.specs.Steps.{Few, PostRead, placeIn, OrderRead}
 use Rattle.embedding.specs.declared.Row.{Row}
@@ -76,11 +76,7 @@ module _ {n : ℕ} {e o : List ℕ} {v at : ℕ} {rows : List (List ℕ)} (h : G
     ok-part x = subst (λ (ds : List ℕ). ok ≡ allLeave (plate n e o x) v ds && distinct ds) (part-is x) (r .ok n o x)
 
     on : (p : Plate) → ok ≡ allLeave p v (partOf p v) && distinct (partOf p v) → partsOk (n - v) v p ≡ partsOk n 0 p → ok && partsOk (n - (v + 1)) (suc v) p ≡ partsOk n 0 p
-    on p w s = ap (λ (t : Bool). t && partsOk (n - (v + 1)) (suc v) p) w ∙ assoc (allLeave p v (partOf p v)) (distinct (partOf p v)) (partsOk (n - (v + 1)) (suc v) p) ∙ this (λ k u. partsOk k u p) n v s l
-      where
-        assoc : (a b c : Bool) → (a && b) && c ≡ a && (b && c)
-        assoc true b c = refl
-        assoc false b c = refl
+    on p w s = ap (λ (t : Bool). t && partsOk (n - (v + 1)) (suc v) p) w ∙ sym (and-assoc (allLeave p v (partOf p v)) (distinct (partOf p v)) (partsOk (n - (v + 1)) (suc v) p)) ∙ this (λ k u. partsOk k u p) n v s l
 
     pub gathering-not : {xs : List ℕ} → ok ≡ false → OrderRead n e o (record { ok = false; places = xs })
     gathering-not w =

@@ -30,8 +30,8 @@ pub goes-on : (n : ℕ) (front rest : List ℕ) → length front % 2 ≡ 0 → g
 goes-on n front rest e = sym (go-split n noStrips front rest e)
 
 -- after k strips, or after all of them where there are fewer
-pub stopped-after : (n k : ℕ) (es : List ℕ) → stoppedAfter k n es ≡ stateOf n es
-stopped-after n k es = go (decLe (2 * k) (length es))
+pub stopped-after : (k n : ℕ) (es : List ℕ) → stoppedAfter k n es ≡ stateOf n es
+stopped-after k n es = go (decLe (2 * k) (length es))
   where
     go : Dec (2 * k ≤ length es) → stoppedAfter k n es ≡ stateOf n es
     go (yes l) =
@@ -213,7 +213,7 @@ module _ (p : Plate) (even : darts p % 2 ≡ 0) where
 
     -- also where it was stopped after any strip
     pub answered-after : (k : ℕ) → answerOf (stoppedAfter k (p .posts) (p .ends)) ≡ stripsFault p
-    answered-after k = ap answerOf (stopped-after (p .posts) k (p .ends)) ∙ answered
+    answered-after k = ap answerOf (stopped-after k (p .posts) (p .ends)) ∙ answered
 
     -- no post over four: the degrees
     pub strips-few : stripsFault p ≡ 0 → Few (p .posts) (p .ends) (state .degrees)

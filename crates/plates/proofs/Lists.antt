@@ -43,7 +43,7 @@ list-pass k s = go (walkAll false s .number) refl
 pub one-pass : One-pass
 one-pass =
     record {
-      goes-on = λ k n es. stopped-after n k es;
+      goes-on = stopped-after;
       in-sequence = λ k s e few. answered-after (plateOf s) (list-fields s e .ends-even) few k;
       answered = list-pass;
     }
