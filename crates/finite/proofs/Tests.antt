@@ -72,7 +72,7 @@ equal-or-not a b = ⊎-elim (λ e. inl (eqb-true a b e)) (λ e. inr (eqb-false a
 pub eqb-turned : (a b : ℕ) → eqb a b ≡ eqb b a
 eqb-turned a b = same-test (eqb a b) (eqb b a) (λ e. eq-eqb b a (sym (eqb-true a b e))) (λ e. eq-eqb a b (sym (eqb-true b a e)))
 
--- the first of two faults: none, the first one, and of three
+-- the first of two faults is none only where both are, and the first where that is one; of three it does not matter which two are put together
 pub first-none : (a b : ℕ) → firstOf a b ≡ 0 → (a ≡ 0) × (b ≡ 0)
 first-none zero b e = (refl, e)
 first-none (suc a) b e = absurd (omega arith)

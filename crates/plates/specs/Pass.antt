@@ -14,7 +14,7 @@ listPass k s = let w = walkAll false s in firstOf (w .number) (passFault k (plat
 pub record One-pass : Type 0 where
   -- stopped after any strip, the pass goes on over the rest alone to the state of the whole field
   pub goes-on : (k n : ℕ) (es : List ℕ) → stoppedAfter k n es ≡ stateOf n es
-  -- and to its answer, the first of 9, 10 and 11 that the whole field meets; over 64 posts are refused before the strips
+  -- and to its answer, the first of 9, 10 and 11 that the whole field meets; a list with over 64 posts is refused before its strips are gone over
   pub in-sequence : (k : ℕ) (s : List ℕ) → walkAll false s .number ≡ 0 → plateOf s .posts ≤ 64 → answerOf (stoppedAfter k (plateOf s .posts) (plateOf s .ends)) ≡ stripsFault (plateOf s)
   -- so that every list, of any length, has the fault that `listFault` gives it
   pub answered : (k : ℕ) (s : List ℕ) → listPass k s ≡ listFault s
