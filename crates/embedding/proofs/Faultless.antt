@@ -6,16 +6,15 @@ use borrow.Author.Tests.{eqb-true, eqb-false, ltb-false, leb-false, not-false}
 use lib.Dec.{eqb, ltb, leb}
 use lib.ListN.{length}
 use Rattle.finite.proofs.Tests.{and-left, and-right, or-left-false, or-right-false, first-none, when-none}
-use Rattle.embedding.specs.Plates.{Plate, darts, strips, allBelow, someLoop, overFour, partsOk, faces, connected, isPlane, plateFault}
+use Rattle.embedding.specs.Plates.{Plate, darts, strips, allBelow, overFour, partsOk, faces, connected, isPlane, plateFault}
 use Rattle.embedding.proofs.Rotation.{Ordered}
 
--- refusals 7 to 15, none met
+-- none of the refusals 7 to 15 met
 pub record Faultless (p : Plate) : Type 0 where
   pub some-post : (p .posts ≡ 0) → ⊥
   pub posts-most : p .posts ≤ 64
   pub some-dart : (darts p ≡ 0) → ⊥
   pub ends-below : allBelow (p .posts) (p .ends) ≡ true
-  pub no-loop : someLoop (p .ends) ≡ false
   pub four-most : overFour (p .posts) 0 p ≡ false
   pub all-ordered : length (p .order) ≡ darts p
   pub parts-ok : partsOk (p .posts) 0 p ≡ true
@@ -28,8 +27,7 @@ faultless p e =
     let r7 = first-none _ _ e in
     let r8 = first-none _ _ (r7 .1) in
     let r9 = first-none _ _ (r8 .1) in
-    let r10 = first-none _ _ (r9 .1) in
-    let r11 = first-none _ _ (r10 .1) in
+    let r11 = first-none _ _ (r9 .1) in
     let r12 = first-none _ _ (r11 .1) in
     let r13 = first-none _ _ (r12 .1) in
     let r14 = first-none _ _ (r13 .1) in
@@ -40,7 +38,6 @@ faultless p e =
       posts-most = ltb-false 64 (p .posts) (or-right-false (eqb (p .posts) 0) (ltb 64 (p .posts)) posts-ok);
       some-dart = eqb-false (darts p) 0 (when-none (eqb (darts p) 0) 7 (r8 .0));
       ends-below = not-false (allBelow (p .posts) (p .ends)) (when-none _ 8 (r9 .0));
-      no-loop = when-none (someLoop (p .ends)) 9 (r10 .0);
       four-most = when-none (overFour (p .posts) 0 p) 10 (r11 .0);
       all-ordered = eqb-true (length (p .order)) (darts p) (and-left (eqb (length (p .order)) (darts p)) (partsOk (p .posts) 0 p) order-ok);
       parts-ok = and-right (eqb (length (p .order)) (darts p)) (partsOk (p .posts) 0 p) order-ok;
@@ -50,4 +47,4 @@ faultless p e =
     }
 
 pub ordered : (p : Plate) → darts p % 2 ≡ 0 → Faultless p → Ordered p
-ordered p e f = record { even = e; ends-below = f .ends-below; no-loop = f .no-loop; all-ordered = f .all-ordered; parts-ok = f .parts-ok }
+ordered p e f = record { even = e; ends-below = f .ends-below; all-ordered = f .all-ordered; parts-ok = f .parts-ok }

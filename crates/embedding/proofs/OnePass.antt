@@ -13,7 +13,7 @@ use lib.Seq.{take-all}
 use Rattle.finite.specs.Tables.{Table, upTo}
 use Rattle.finite.proofs.Tables.{table-cong, table-set, up-below, up-cong}
 use Rattle.finite.proofs.Tests.{equal-or-not, or-right, first-none, first-assoc, when-none}
-use Rattle.embedding.specs.Plates.{pick, firstOf, when, Plate, darts, degreeFrom, degree, allBelow, someLoop, overFour, plateFault}
+use Rattle.embedding.specs.Plates.{pick, firstOf, when, Plate, darts, degreeFrom, degree, allBelow, overFour, plateFault}
 use Rattle.embedding.specs.Pass.{noStrips, addEnd, addStrip, goOn, stateOf, stoppedAfter, firstMet, answerOf, stripsFault, earlyFault, lateFault, passFault, GoneOn, Answered}
 use Rattle.embedding.specs.Steps.{Few}
 use Rattle.embedding.specs.declared.strips.Strips.{Strips}
@@ -59,7 +59,7 @@ module _ (n : ℕ) (s : Strips) (es : List ℕ) (i : ℕ) (t : Strips) (so-far :
 pub gone-on : (n : ℕ) (s : Strips) (rest : List ℕ) (r : Strips) → r ≡ goOn n s rest → GoneOn n s rest r
 gone-on n s rest r e = record { steps = e; whole = λ front even q. e ∙ ap (λ (t : Strips). goOn n t rest) q ∙ goes-on n front rest even }
 
--- 9 and 10
+-- 9
 or-none : (a : Bool) → a ≡ a || false
 or-none true = refl
 or-none false = refl
@@ -73,21 +73,10 @@ strays false false true r = refl
 strays true false false r = refl
 strays false false false r = refl
 
-loops : (s a r : Bool) → (a || s) || r ≡ s || (a || r)
-loops true true r = refl
-loops false true r = refl
-loops s false r = refl
-
-module _ (n : ℕ) where
-  go-stray : (s : Strips) (es : List ℕ) → length es % 2 ≡ 0 → goOn n s es .stray ≡ s .stray || not (allBelow n es)
-  go-stray s [] e = or-none (s .stray)
-  go-stray s (a ∷ []) e = absurd (omega arith)
-  go-stray s (a ∷ (b ∷ es)) e = go-stray (addStrip n a b s) es (omega arith) ∙ strays (s .stray) (ltb a n) (ltb b n) (allBelow n es)
-
-  go-looped : (s : Strips) (es : List ℕ) → length es % 2 ≡ 0 → goOn n s es .looped ≡ s .looped || someLoop es
-  go-looped s [] e = or-none (s .looped)
-  go-looped s (a ∷ []) e = absurd (omega arith)
-  go-looped s (a ∷ (b ∷ es)) e = go-looped (addStrip n a b s) es (omega arith) ∙ loops (s .looped) (eqb a b) (someLoop es)
+go-stray : (n : ℕ) (s : Strips) (es : List ℕ) → length es % 2 ≡ 0 → goOn n s es .stray ≡ s .stray || not (allBelow n es)
+go-stray n s [] e = or-none (s .stray)
+go-stray n s (a ∷ []) e = absurd (omega arith)
+go-stray n s (a ∷ (b ∷ es)) e = go-stray n (addStrip n a b s) es (omega arith) ∙ strays (s .stray) (ltb a n) (ltb b n) (allBelow n es)
 
 -- 11, and the counts: f strip ends at each post, held up to four, and whether some post has more
 record Holds (n : ℕ) (f : ℕ → ℕ) (over : Bool) (degrees : List ℕ) : Type 0 where
@@ -168,12 +157,11 @@ go-holds {n} b f s (x ∷ (y ∷ es)) e h =
     holds-cong (λ v. f v + when (eqb v x) 1 + when (eqb v y) 1 + degreeFrom v es) (λ v. f v + (when (eqb v x) 1 + (when (eqb v y) 1 + degreeFrom v es))) (λ v. omega arith)
     (go-holds b (λ v. f v + when (eqb v x) 1 + when (eqb v y) 1) (addStrip n x y s) es (omega arith) (holds-end b (holds-end b h x) y))
 
--- 9, 10 and 11 not met
-pub strips-none : (p : Plate) → stripsFault p ≡ 0 → (allBelow (p .posts) (p .ends) ≡ true) × (someLoop (p .ends) ≡ false) × (overFour (p .posts) 0 p ≡ false)
+-- 9 and 11 not met
+pub strips-none : (p : Plate) → stripsFault p ≡ 0 → (allBelow (p .posts) (p .ends) ≡ true) × (overFour (p .posts) 0 p ≡ false)
 strips-none p e =
-    let r9 = first-none (when (not (allBelow (p .posts) (p .ends))) 9) (firstOf (when (someLoop (p .ends)) 10) (when (overFour (p .posts) 0 p) 11)) e in
-    let r10 = first-none (when (someLoop (p .ends)) 10) (when (overFour (p .posts) 0 p) 11) (r9 .1) in
-    (not-false (allBelow (p .posts) (p .ends)) (when-none (not (allBelow (p .posts) (p .ends))) 8 (r9 .0)), when-none (someLoop (p .ends)) 9 (r10 .0), when-none (overFour (p .posts) 0 p) 10 (r10 .1))
+    let r9 = first-none (when (not (allBelow (p .posts) (p .ends))) 9) (when (overFour (p .posts) 0 p) 11) e in
+    (not-false (allBelow (p .posts) (p .ends)) (when-none (not (allBelow (p .posts) (p .ends))) 8 (r9 .0)), when-none (overFour (p .posts) 0 p) 10 (r9 .1))
 
 -- the state of the whole field
 module _ (p : Plate) (even : darts p % 2 ≡ 0) where
@@ -183,10 +171,6 @@ module _ (p : Plate) (even : darts p % 2 ≡ 0) where
   stray-is : state .stray ≡ not (allBelow (p .posts) (p .ends))
   unfolding noStrips
   stray-is = go-stray (p .posts) noStrips (p .ends) even
-
-  looped-is : state .looped ≡ someLoop (p .ends)
-  unfolding noStrips
-  looped-is = go-looped (p .posts) noStrips (p .ends) even
 
   module _ (few : p .posts ≤ 64) where
     holds : Holds (p .posts) (degree p) (state .over) (state .degrees)
@@ -207,9 +191,7 @@ module _ (p : Plate) (even : darts p % 2 ≡ 0) where
 
     -- the answer of the pass is that of the definitions
     pub answered : answerOf state ≡ stripsFault p
-    answered =
-        ap (λ (t : Bool). firstMet t (state .looped) (state .over)) stray-is ∙ ap (λ (t : Bool). firstMet (not (allBelow (p .posts) (p .ends))) t (state .over)) looped-is
-        ∙ ap (firstMet (not (allBelow (p .posts) (p .ends))) (someLoop (p .ends))) over-is
+    answered = ap (λ (t : Bool). firstMet t (state .over)) stray-is ∙ ap (firstMet (not (allBelow (p .posts) (p .ends)))) over-is
 
     -- also where it was stopped after any strip
     pub answered-after : (k : ℕ) → answerOf (stoppedAfter k (p .posts) (p .ends)) ≡ stripsFault p
@@ -218,7 +200,7 @@ module _ (p : Plate) (even : darts p % 2 ≡ 0) where
     -- no post over four: the degrees
     pub strips-few : stripsFault p ≡ 0 → Few (p .posts) (p .ends) (state .degrees)
     strips-few e =
-        let most = over-most p (p .posts) (strips-none p e .2) in
+        let most = over-most p (p .posts) (strips-none p e .1) in
         record {
           table = table-cong 64 (upTo (p .posts) (λ v. min (degree p v) 4)) (upTo (p .posts) (degree p)) (state .degrees) (λ v k. up-cong (p .posts) (λ v. min (degree p v) 4) (degree p) v (λ l. omega (arith, most v l))) counted;
           most = most;
@@ -230,7 +212,7 @@ answers s r e = record { number = e; whole = λ p few even q. e ∙ ap answerOf 
 -- a plate's fault in three parts: before the strips, of the strips, after them
 pub fault-parts : (p : Plate) → plateFault p ≡ firstOf (earlyFault (p .posts) (p .ends)) (firstOf (stripsFault p) (lateFault p))
 fault-parts p =
-    ap (λ (r : ℕ). firstOf e7 (firstOf e8 r)) (ap (firstOf e9) (first-assoc e10 e11 (lateFault p)) ∙ first-assoc e9 (firstOf e10 e11) (lateFault p))
+    ap (λ (r : ℕ). firstOf e7 (firstOf e8 r)) (first-assoc e9 e11 (lateFault p))
     ∙ first-assoc e7 e8 (firstOf (stripsFault p) (lateFault p))
   where
     e7 : ℕ
@@ -241,9 +223,6 @@ fault-parts p =
 
     e9 : ℕ
     e9 = when (not (allBelow (p .posts) (p .ends))) 9
-
-    e10 : ℕ
-    e10 = when (someLoop (p .ends)) 10
 
     e11 : ℕ
     e11 = when (overFour (p .posts) 0 p) 11

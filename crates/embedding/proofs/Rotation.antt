@@ -7,19 +7,18 @@ use Prim.Native.Nat.{ℕ, zero, suc, _+_, _-_, _%_, _≤_, _<_, zero-le}
 use native.Mathlib.Omega.{arith}
 use borrow.Author.Tests.{eqb-true, eqb-false, eq-eqb, ne-eqb, ltb-true, ltb-false, le-ltb}
 use lib.Dec.{eqb, ltb}
-use lib.ListN.{length, getD, drop, length-take, length-drop}
+use lib.ListN.{length, drop, length-take, length-drop}
 use Rattle.finite.specs.Walks.{OneToOne}
 use Rattle.finite.proofs.Members.{getD-in, in-none, in-here, in-more, in-cases, in-one, in-past, all-in, all-of, distinct-head, distinct-rest, last-in}
 use Rattle.finite.proofs.Pigeonhole.{length-members, when-one}
 use Rattle.finite.proofs.Sums.{sumBelow, sumOver, sum-cong, sum-none, sum-ones, sum-add, sum-le, sum-tight, sum-over-places}
-use Rattle.finite.proofs.Tests.{or-left-false, or-right-false, equal-or-not, not-both, and-left, and-right}
-use Rattle.embedding.specs.Plates.{pick, when, isIn, Plate, darts, twin, leaves, endsAt, degreeFrom, degree, before, partOf, allBelow, someLoop, distinct, allLeave, partsOk, lastOf, justBefore, after}
+use Rattle.finite.proofs.Tests.{equal-or-not, not-both, and-left, and-right}
+use Rattle.embedding.specs.Plates.{pick, when, isIn, Plate, darts, twin, leaves, endsAt, degreeFrom, degree, before, partOf, allBelow, distinct, allLeave, partsOk, lastOf, justBefore, after}
 
 -- what refusals 7 to 12 leave
 pub record Ordered (p : Plate) : Type 0 where
   pub even : darts p % 2 ≡ 0
   pub ends-below : allBelow (p .posts) (p .ends) ≡ true
-  pub no-loop : someLoop (p .ends) ≡ false
   pub all-ordered : length (p .order) ≡ darts p
   pub parts-ok : partsOk (p .posts) 0 p ≡ true
 
@@ -166,13 +165,6 @@ module _ (p : Plate) where
           subst (λ (u : ℕ). (allLeave p u (partOf p u) ≡ true) × (distinct (partOf p u) ≡ true)) (sym q)
           (and-left (allLeave p a (partOf p a)) (distinct (partOf p a) && partsOk n (suc a) p) h, and-left (distinct (partOf p a)) (partsOk n (suc a) p) more)
 
-apart-even : (es : List ℕ) → someLoop es ≡ false → (i : ℕ) → i % 2 ≡ 0 → suc i < length es → getD es i 0 ≡ getD es (suc i) 0 → ⊥
-apart-even [] h i e l q = omega arith
-apart-even (a ∷ []) h i e l q = omega arith
-apart-even (a ∷ (b ∷ es)) h zero e l q = eqb-false a b (or-left-false (eqb a b) (someLoop es) h) q
-apart-even (a ∷ (b ∷ es)) h (suc zero) e l q = omega arith
-apart-even (a ∷ (b ∷ es)) h (suc (suc i)) e l q = apart-even es (or-right-false (eqb a b) (someLoop es) h) i (omega arith) (omega arith) q
-
 module _ (p : Plate) (o : Ordered p) where
   pub leaves-below : (d : ℕ) → d < darts p → leaves p d < p .posts
   leaves-below d l = all-in (p .posts) (leaves p d) (p .ends) (o .ends-below) (getD-in (p .ends) d l)
@@ -234,13 +226,6 @@ module _ (p : Plate) (o : Ordered p) where
 
   pub after-one-to-one : OneToOne (after p) (darts p)
   after-one-to-one = record { below = after-below; one = after-one }
-
-  -- no dart ends where it starts
-  pub ends-elsewhere : (d : ℕ) → d < darts p → leaves p d ≡ endsAt p d → ⊥
-  ends-elsewhere d l q =
-      ⊎-elim (λ h. apart-even (p .ends) (o .no-loop) d (h .0) (omega (arith, twin-dart d l)) (q ∙ ap (leaves p) (h .1)))
-      (λ h. apart-even (p .ends) (o .no-loop) (d - 1) (omega arith) (omega arith) (sym (ap (leaves p) (h .1)) ∙ sym q ∙ ap (leaves p) (omega arith)))
-      (twin-cases d)
 
   pub twin-one-to-one : OneToOne twin (darts p)
   twin-one-to-one = record { below = twin-dart; one = λ d e l k q. twin-one d e q }

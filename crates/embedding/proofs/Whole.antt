@@ -14,7 +14,7 @@ use Rattle.finite.proofs.Members.{all-of}
 use Rattle.finite.proofs.Pigeonhole.{at-most}
 use Rattle.finite.proofs.Tables.{table-cong, up-below, up-cong}
 use Rattle.finite.proofs.Tests.{or-left-false, or-right-false, first-none, first-some, when-none}
-use Rattle.embedding.specs.Plates.{pickT, firstOf, when, Plate, plate, darts, twin, endsAt, partOf, allBelow, someLoop, partsOk, lastOf, justBefore, after, faces, reach, connected, isPlane, plateFault}
+use Rattle.embedding.specs.Plates.{pickT, firstOf, when, Plate, plate, darts, twin, endsAt, partOf, allBelow, partsOk, lastOf, justBefore, after, faces, reach, connected, isPlane, plateFault}
 use Rattle.embedding.specs.Steps.{Few, placeIn, afterIn, nextOf}
 use Rattle.embedding.specs.Pass.{stripsFault, earlyFault, lateFault}
 use Rattle.embedding.specs.Read.{Follows, faceSize, Stands, blank, Past, refusal, Reads}
@@ -62,9 +62,6 @@ module _ (p : Plate) {degrees : List ℕ} (h : Past (p .posts) (p .ends) degrees
   pub ends-below : allBelow (p .posts) (p .ends) ≡ true
   ends-below = strips-none p (h .strips (p .order) (p .outer)) .0
 
-  no-loop : someLoop (p .ends) ≡ false
-  no-loop = strips-none p (h .strips (p .order) (p .outer)) .1
-
 -- refusals 7 to 12 not met
 pub record PastOrder (p : Plate) (degrees : List ℕ) : Type 0 where
   pub past : Past (p .posts) (p .ends) degrees
@@ -101,7 +98,7 @@ module _ {p : Plate} {degrees : List ℕ} (h : PastOrder p degrees) (even : dart
   few = h .past .few
 
   in-order : Ordered p
-  in-order = record { even = even; ends-below = ends-below p (h .past); no-loop = no-loop p (h .past); all-ordered = h .long; parts-ok = sym (h .parts) }
+  in-order = record { even = even; ends-below = ends-below p (h .past); all-ordered = h .long; parts-ok = sym (h .parts) }
 
   module _ {places : List ℕ} (t : Table 256 (placeIn p) places) where
     -- the places of a post hold its part

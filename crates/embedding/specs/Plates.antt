@@ -47,12 +47,7 @@ before p (suc v) = degree p v + before p v
 abbrev pub partOf : Plate → ℕ → List ℕ
 partOf p v = take (degree p v) (drop (before p v) (p .order))
 
--- 7 to 13
-abbrev pub someLoop : List ℕ → Bool
-someLoop [] = false
-someLoop (a ∷ []) = false
-someLoop (a ∷ (b ∷ es)) = eqb a b || someLoop es
-
+-- 7 to 13, but 10, which is no longer given: a strip may join a post to itself, and takes two of its places
 abbrev pub overFour : ℕ → ℕ → Plate → Bool
 overFour zero v p = false
 overFour (suc n) v p = ltb 4 (degree p v) || overFour n (suc v) p
@@ -106,4 +101,4 @@ abbrev pub isPlane : Plate → Bool
 isPlane p = eqb (p .posts + length (faces p)) (strips p + 2)
 
 abbrev pub plateFault : Plate → ℕ
-plateFault p = let n = p .posts in firstOf (when (eqb n 0 || ltb 64 n) 7) (firstOf (when (eqb (darts p) 0) 8) (firstOf (when (not (allBelow n (p .ends))) 9) (firstOf (when (someLoop (p .ends)) 10) (firstOf (when (overFour n 0 p) 11) (firstOf (when (not (eqb (length (p .order)) (darts p) && partsOk n 0 p)) 12) (firstOf (when (leb (darts p) (p .outer)) 13) (firstOf (when (not (connected p)) 14) (when (not (isPlane p)) 15))))))))
+plateFault p = let n = p .posts in firstOf (when (eqb n 0 || ltb 64 n) 7) (firstOf (when (eqb (darts p) 0) 8) (firstOf (when (not (allBelow n (p .ends))) 9) (firstOf (when (overFour n 0 p) 11) (firstOf (when (not (eqb (length (p .order)) (darts p) && partsOk n 0 p)) 12) (firstOf (when (leb (darts p) (p .outer)) 13) (firstOf (when (not (connected p)) 14) (when (not (isPlane p)) 15)))))))

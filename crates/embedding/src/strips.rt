@@ -1,13 +1,12 @@
-//! The strips gone over once: refusals 9 to 11 and the degrees of the posts. The pass may stop after any strip and go on later.
+//! The strips gone over once: refusals 9 and 11 and the degrees of the posts. The pass may stop after any strip and go on later.
 ghost use mathlib.Core.Path.{_≡_};
 ghost use Prim.Native.Nat.{_≤_};
 ghost use Rattle.embedding.specs.Pass.{noStrips, addEnd, addStrip, GoneOn, Answered};
 use crate::wide;
 
-// What was met so far: an end that is no post (9), a strip from a post to itself (10), a fifth strip end at a post (11); and how many strip ends each post has, counted up to four.
+// What was met so far: an end that is no post (9), a fifth strip end at a post (11); and how many strip ends each post has, counted up to four. A strip from a post to itself has both its ends there.
 pub struct Strips {
     pub stray: bool,
-    pub looped: bool,
     pub over: bool,
     pub degrees: [u8; 64],
 }
@@ -18,7 +17,6 @@ pub fn no_strips() -> Strips
 {
     Strips {
         stray: false,
-        looped: false,
         over: false,
         degrees: [0; 64],
     }
@@ -49,12 +47,7 @@ fn add_strip(posts: usize, s: Strips, a: usize, b: usize) -> Strips
     ensures { λ r. ⌜ r ≡ addStrip posts a b s ⌝ }
 {
     let first = add_end(posts, s, a);
-    let mut both = add_end(posts, first, b);
-    if a == b {
-        both.looped = true;
-        return both;
-    }
-    both
+    add_end(posts, first, b)
 }
 
 // The strips of `rest` after those that `s` is the state of.
@@ -73,15 +66,12 @@ pub fn go_on(posts: usize, s: Strips, rest: &[u8]) -> Strips
     r
 }
 
-// 9, 10 or 11, the first that was met, or 0.
+// 9 or 11, the first that was met, or 0.
 pub fn answer(s: Strips) -> u8
     ensures { λ r. ⌜ Answered s r ⌝ }
 {
     if s.stray {
         return 9;
-    }
-    if s.looped {
-        return 10;
     }
     if s.over {
         return 11;

@@ -12,7 +12,7 @@ use Rattle.shapes.specs.Shapes.{meets, bends}
 use Rattle.shapes.specs.Turns.{turnSum}
 use Rattle.shapes.specs.Tried.{Row, rows, given, rowHolds, rowsHold, f0, f1, f2}
 
--- P1 to P8
+-- P1 to P8, and the strip from a post to itself
 pub table-holds : rowsHold rows ≡ true
 table-holds = refl
 

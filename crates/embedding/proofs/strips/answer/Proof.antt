@@ -7,13 +7,10 @@ returns : tie.Need-returns
 returns c = answers (c .before .args .s) 9 (rw (c .if1 .taken))
 
 returns-2 : tie.Need-returns-2
-returns-2 c = answers (c .before .before .args .s) 10 (rw (c .before .if1 .left, c .if2 .taken))
+returns-2 c = answers (c .before .before .args .s) 11 (rw (c .before .if1 .left, c .if2 .taken))
 
 returns-3 : tie.Need-returns-3
-returns-3 c = answers (c .before .before .before .args .s) 11 (rw (c .before .before .if1 .left, c .before .if2 .left, c .if3 .taken))
-
-returns-4 : tie.Need-returns-4
-returns-4 c = answers (c .before .before .before .args .s) 0 (rw (c .before .before .if1 .left, c .before .if2 .left, c .if3 .left))
+returns-3 c = answers (c .before .before .args .s) 0 (rw (c .before .if1 .left, c .if2 .left))
 
 pub answer-spec : {M : Type 1} → statement M
-answer-spec = tie.close (tie.spec returns returns-2 returns-3 returns-4)
+answer-spec = tie.close (tie.spec returns returns-2 returns-3)
