@@ -38,8 +38,8 @@ enum plates_refusal {
     PLATES_POST_COUNT = 7,         /* no post, or over 64 */
     PLATES_NO_STRIPS = 8,          /* no strip */
     PLATES_END_NOT_A_POST = 9,     /* some strip's end is not a post */
-    PLATES_STRIP_TO_ITSELF = 10,   /* some strip joins a post to itself */
-    PLATES_OVER_FOUR_STRIPS = 11,  /* some post has over four strips */
+    /* 10 is no longer given: a strip may join a post to itself */
+    PLATES_OVER_FOUR_STRIPS = 11,  /* some post has over four of its places taken */
     PLATES_CLOCKWISE_ORDER = 12,   /* not exactly each post's leaving darts, each once */
     PLATES_OUTER_DART = 13,        /* outer dart is not a dart */
     PLATES_NOT_CONNECTED = 14,     /* not in one piece */

@@ -258,9 +258,7 @@ pub enum Refusal {
     NoStrips = 8,
     /// Some strip's end is not a post.
     EndNotAPost = 9,
-    /// Some strip joins a post to itself.
-    StripToItself = 10,
-    /// Some post has over four strips.
+    /// Some post has over four of its places taken; 10 is no longer given.
     OverFourStrips = 11,
     /// The clockwise order is not each post's leaving darts, each once.
     ClockwiseOrder = 12,
@@ -288,7 +286,7 @@ pub enum Refusal {
 
 impl Refusal {
     /// Every refusal, by rising number.
-    pub const ALL: [Refusal; 22] = [
+    pub const ALL: [Refusal; 21] = [
         Refusal::FieldCut,
         Refusal::UnknownTag,
         Refusal::RepeatedTag,
@@ -298,7 +296,6 @@ impl Refusal {
         Refusal::PostCount,
         Refusal::NoStrips,
         Refusal::EndNotAPost,
-        Refusal::StripToItself,
         Refusal::OverFourStrips,
         Refusal::ClockwiseOrder,
         Refusal::OuterDart,
@@ -313,12 +310,12 @@ impl Refusal {
         Refusal::TotalDiffers,
     ];
 
-    /// Its number, 1 to 22.
+    /// Its number, 1 to 22, but never 10.
     pub fn number(self) -> u8 {
         self as u8
     }
 
-    /// The refusal with this number; none for 0 and for numbers over 22.
+    /// The refusal with this number; none for 0, for 10, which is no longer given, and for numbers over 22.
     ///
     /// ```
     /// use plates::Refusal;
@@ -328,8 +325,7 @@ impl Refusal {
     /// assert_eq!(Refusal::NotPlane.to_string(), "refused 15: strips would cross in the given order round the posts");
     /// ```
     pub fn from_number(number: u8) -> Option<Refusal> {
-        let place = usize::from(number).checked_sub(1)?;
-        Refusal::ALL.get(place).copied()
+        Refusal::ALL.into_iter().find(|r| r.number() == number)
     }
 
     /// What is wrong, in words.
@@ -344,8 +340,7 @@ impl Refusal {
             Refusal::PostCount => "the plate must have 1 to 64 posts",
             Refusal::NoStrips => "the plate has no strips",
             Refusal::EndNotAPost => "a strip ends at a post that the plate does not have",
-            Refusal::StripToItself => "a strip begins and ends at the same post",
-            Refusal::OverFourStrips => "a post has more than four strips",
+            Refusal::OverFourStrips => "a post has more than four strip ends",
             Refusal::ClockwiseOrder => {
                 "the clockwise order must list, post after post, each dart that leaves the post once"
             }
@@ -379,7 +374,8 @@ mod tests {
     fn numbers_and_refusals_agree() {
         for number in 0..=255 {
             let refusal = Refusal::from_number(number);
-            assert_eq!(refusal.map_or(0, Refusal::number) == number, number <= 22);
+            let given = number <= 22 && number != 10;
+            assert_eq!(refusal.map_or(0, Refusal::number) == number, given);
         }
     }
 }

@@ -122,12 +122,11 @@ fn pairs(content: &[u8]) -> Vec<[usize; 2]> {
         .collect()
 }
 
-/// 8 to 11.
+/// 8, 9 and 11.
 fn check_strips(plate: &Plate) -> Result<(), u8> {
     let strips = &plate.strips;
     refuse_if(strips.is_empty(), 8)?;
     refuse_if(strips.iter().flatten().any(|&end| end >= plate.posts), 9)?;
-    refuse_if(strips.iter().any(|[a, b]| a == b), 10)?;
     refuse_if((0..plate.posts).any(|post| plate.degree(post) > 4), 11)
 }
 

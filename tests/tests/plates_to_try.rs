@@ -164,6 +164,14 @@ fn p10_strips_at_a_post() {
     assert_eq!(refused(&list_bytes(&by_number(6, &star, 0), 7, None)), 11);
 }
 
+/// Request E5: a strip from a post to itself takes two places.
+#[test]
+fn e5_strips_to_itself() {
+    try_plate(&plate(1, &[[0, 0]], 1), &[3, 0], &[1, 3]);
+    try_plate(&plate(1, &[[0, 0]; 2], 1), &[3, 0, 3, 0], &[1; 4]);
+    assert_eq!(refused(&list_bytes(&plate(1, &[[0, 0]; 3], 1), 7, None)), 11);
+}
+
 #[test]
 fn p10_lent_memory() {
     let mut out = [0xee; 30];

@@ -77,6 +77,18 @@ fn shapes_to_try() {
     show(b"P4", 2, b"\x00\x01", b"\x00\x01", 0);
 }
 
+// Strips from a post to itself: the one of request E5, and two of which the second lies inside the first.
+fn strips_to_itself() {
+    show(b"to itself", 1, b"\x00\x00", b"\x00\x01", 1);
+    show(
+        b"to itself twice",
+        1,
+        b"\x00\x00\x00\x00",
+        b"\x00\x02\x03\x01",
+        1,
+    );
+}
+
 fn more_shapes_to_try() {
     show(
         b"P5",
@@ -150,6 +162,7 @@ fn verdicts_on_sums() {
 fn main() {
     shapes_to_try();
     more_shapes_to_try();
+    strips_to_itself();
     verdicts();
     verdicts_on_sums();
 }

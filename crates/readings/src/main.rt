@@ -110,7 +110,7 @@ fn more_plates_to_try() {
     );
 }
 
-// Refusals 7 to 10: P10's 65 and 64 posts, and each against the next.
+// Refusals 7 to 9: P10's 65 and 64 posts, and each against the next.
 fn posts_and_strips() {
     show(b"no post", 0, b"\x00\x01", b"\x00\x01", 0);
     show(b"65 posts", 65, b"\x00\x01", b"\x00\x01", 0);
@@ -126,7 +126,7 @@ fn posts_and_strips() {
     );
 }
 
-// Refusal 11: P10's fifth strip at a post, and a fourth.
+// Refusal 11: P10's fifth strip at a post, and a fourth; strips from a post to itself, which take two places.
 fn strips_at_a_post() {
     show(
         b"a strip to itself",
@@ -141,6 +141,28 @@ fn strips_at_a_post() {
         b"\x00\x01\x00\x01\x00\x01\x00\x01\x00\x01\x01\x01",
         b"",
         0,
+    );
+    show(b"one strip to itself", 1, b"\x00\x00", b"\x00\x01", 1);
+    show(
+        b"two strips to itself",
+        1,
+        b"\x00\x00\x00\x00",
+        b"\x00\x01\x02\x03",
+        1,
+    );
+    show(
+        b"two strips to itself across each other",
+        1,
+        b"\x00\x00\x00\x00",
+        b"\x00\x02\x01\x03",
+        1,
+    );
+    show(
+        b"a strip to itself and three",
+        2,
+        b"\x00\x00\x00\x01\x00\x01\x00\x01",
+        b"\x00\x01\x02\x04\x06\x07\x05\x03",
+        1,
     );
     show(
         b"five strips",
@@ -190,14 +212,13 @@ fn orders() {
     );
 }
 
-// Refusals 9 to 11 by a pass that stops after each strip in turn: each before and behind the next, and none.
+// Refusals 9 and 11 by a pass that stops after each strip in turn: each before and behind the other, strips to itself, and none.
 fn stopped() {
     show_stopped(b"a strip to itself, then no post", 2, b"\x01\x01\x00\x02");
-    show_stopped(b"no post, then a strip to itself", 2, b"\x02\x00\x01\x01");
     show_stopped(
-        b"five strips, then one to itself",
+        b"no post, then five strips",
         2,
-        b"\x00\x01\x00\x01\x00\x01\x00\x01\x00\x01\x01\x01",
+        b"\x02\x00\x00\x01\x00\x01\x00\x01\x00\x01\x00\x01",
     );
     show_stopped(
         b"five strips, then no post",
@@ -210,6 +231,16 @@ fn stopped() {
         b"\x00\x01\x00\x01\x00\x01\x00\x01\x00\x01",
     );
     show_stopped(b"four strips", 2, b"\x00\x01\x00\x01\x00\x01\x00\x01");
+    show_stopped(
+        b"three strips, then one to itself",
+        2,
+        b"\x00\x01\x00\x01\x00\x01\x01\x01",
+    );
+    show_stopped(
+        b"two strips, then one to itself",
+        2,
+        b"\x00\x01\x00\x01\x01\x01",
+    );
     show_stopped(b"no strip", 2, b"");
 }
 

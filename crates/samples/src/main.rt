@@ -256,27 +256,41 @@ fn post_counts() {
     );
 }
 
-// Refusals 9 to 11, each against the next.
+// Refusals 9 and 11, each against the next, and strips from a post to itself.
 fn strips() {
     // Post 2 of two posts.
     shape(
         b"an end that is no post",
         b"\x01\x00\x02\x00\x07\x02\x00\x01\x02\x03\x00\x02\x00\x02\x04\x00\x02\x00\x01\x05\x00\x01\x00",
     );
-    // 9 comes before 10, also where the strip to itself stands in front.
+    // A strip to itself is no refusal, but post 2 of the strip behind it is.
     shape(
         b"to itself, then no post",
         b"\x01\x00\x02\x00\x07\x02\x00\x01\x02\x03\x00\x04\x01\x01\x00\x02\x04\x00\x04\x00\x01\x02\x03\x05\x00\x01\x00",
     );
-    // Strip 1 joins post 1 to itself.
+    // Strip 1 joins post 1 to itself: inside it, one corner of 1 and three bends to the right.
     shape(
         b"to itself",
         b"\x01\x00\x02\x00\x07\x02\x00\x01\x02\x03\x00\x04\x00\x01\x01\x01\x04\x00\x04\x00\x01\x02\x03\x05\x00\x01\x00",
     );
-    // 10 comes before 11.
+    // Post 0 has five places taken, post 1 seven.
     shape(
         b"five strips, then to itself",
         b"\x01\x00\x02\x00\x07\x02\x00\x01\x02\x03\x00\x0c\x00\x01\x00\x01\x00\x01\x00\x01\x00\x01\x01\x01\x04\x00\x00\x05\x00\x01\x00",
+    );
+    // One post, one strip: three bends on dart 0.
+    shape(
+        b"one strip to itself",
+        b"\x01\x00\x02\x00\x07\x02\x00\x01\x01\x03\x00\x02\x00\x00\x04\x00\x02\x00\x01\x05\x00\x01\x01",
+    );
+    // 11 counts places: three strips to itself take six, two take four.
+    shape(
+        b"three strips to itself",
+        b"\x01\x00\x02\x00\x07\x02\x00\x01\x01\x03\x00\x06\x00\x00\x00\x00\x00\x00\x04\x00\x06\x00\x01\x02\x03\x04\x05\x05\x00\x01\x01",
+    );
+    shape(
+        b"two strips to itself",
+        b"\x01\x00\x02\x00\x07\x02\x00\x01\x01\x03\x00\x04\x00\x00\x00\x00\x04\x00\x04\x00\x01\x02\x03\x05\x00\x01\x01",
     );
     // 11 comes before 12.
     shape(
