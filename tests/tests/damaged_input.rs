@@ -129,7 +129,10 @@ fn damaged_lists() {
         });
     }
     print_numbers("damaged lists", &numbers);
-    (1..=14).for_each(|number| assert_ne!(numbers[number], 0, "number {number}"));
+    // 10 is no longer given.
+    let own = (1..=14).filter(|&number| number != 10);
+    own.for_each(|number| assert_ne!(numbers[number], 0, "number {number}"));
+    assert_eq!(numbers[10], 0);
 }
 
 #[test]

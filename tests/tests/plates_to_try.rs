@@ -169,7 +169,10 @@ fn p10_strips_at_a_post() {
 fn e5_strips_to_itself() {
     try_plate(&plate(1, &[[0, 0]], 1), &[3, 0], &[1, 3]);
     try_plate(&plate(1, &[[0, 0]; 2], 1), &[3, 0, 3, 0], &[1; 4]);
-    assert_eq!(refused(&list_bytes(&plate(1, &[[0, 0]; 3], 1), 7, None)), 11);
+    assert_eq!(
+        refused(&list_bytes(&plate(1, &[[0, 0]; 3], 1), 7, None)),
+        11
+    );
 }
 
 #[test]
