@@ -6,6 +6,7 @@ use native.Mathlib.Omega.{arith}
 use lib.Dec.{T, eqb, leb}
 use borrow.Author.Tests.{eqb-true, eqb-false, leb-true, ne-eqb}
 use Rattle.finite.specs.Base.{when}
+use Rattle.finite.proofs.Tests.{and-parts}
 use Rattle.fields.specs.Files.{tagOk, longOk}
 use Rattle.fields.specs.Rules.{isTag, keeps, ruleOf, ruleNumber, RuleIs, firstTag}
 use Rattle.fields.specs.declared.Rule.{Rule}
@@ -73,18 +74,14 @@ rule-is k t r e =
     }
 
 -- a tag of a file stands in the file's range
-pub and-true : (a b : Bool) → (a && b) ≡ true → (a ≡ true) × (b ≡ true)
-and-true true b e = (refl, e)
-and-true false b e = absurd (subst T (sym e) tt)
-
 pub tag-from : (k : Bool) (t : ℕ) → tagOk k t ≡ true → (firstTag k ≤ t) × (t < firstTag k + 6)
 tag-from true t e =
-    let (a, b) = and-true (leb 17 t) (leb t 21) e in
+    let (a, b) = and-parts (leb 17 t) (leb t 21) e in
     let l : 17 ≤ t = leb-true 17 t a in
     let h : t ≤ 21 = leb-true t 21 b in
     omega arith
 tag-from false t e =
-    let (a, b) = and-true (leb 1 t) (leb t 6) e in
+    let (a, b) = and-parts (leb 1 t) (leb t 6) e in
     let l : 1 ≤ t = leb-true 1 t a in
     let h : t ≤ 6 = leb-true t 6 b in
     omega arith

@@ -9,11 +9,12 @@ use lib.Dec.{T, eqb, leb}
 use lib.ListN.{length, getD, drop, length-drop}
 use borrow.Author.Tests.{eqb-true, eqb-false, leb-true, ne-eqb}
 use Rattle.finite.specs.Base.{pick}
+use Rattle.finite.proofs.Tests.{and-parts}
 use Rattle.fields.specs.Files.{Field, Walk, hasTag, addField, headLong, fieldFault, fieldAt, fieldsFrom, walkAll}
 use Rattle.fields.specs.Rules.{keeps, ruleOf, slotOf, tagAt}
 use Rattle.fields.specs.declared.Rule.{Rule}
 use Rattle.fields.specs.declared.Rule.the-variants.{Exactly, EvenUpTo, UpTo, NoTag}
-use Rattle.fields.proofs.Agree.{agrees, and-true, tag-from}
+use Rattle.fields.proofs.Agree.{agrees, tag-from}
 use Rattle.fields.proofs.Added.{has-other, has-own}
 use Rattle.fields.proofs.Turns.{from-fault, from-met, passed}
 
@@ -27,7 +28,7 @@ roomOf NoTag = 0
 kept-room : (r : Rule) (n : ℕ) → keeps r n ≡ true → 3 + n ≤ roomOf r
 kept-room (Exactly m) n e = let p = eqb-true n m e in omega arith
 kept-room (EvenUpTo m) n e =
-    let (a, b) = and-true (leb n m) _ e in
+    let (a, b) = and-parts (leb n m) _ e in
     let l : n ≤ m = leb-true n m a in
     omega arith
 kept-room (UpTo m) n e = let l : n ≤ m = leb-true n m e in omega arith

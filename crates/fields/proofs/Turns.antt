@@ -1,5 +1,5 @@
--- One step of `fieldsFrom`, and what a field that passed all five refusals tells. Assumes nothing.
-use mathlib.Core.Path.{_≡_, refl}
+-- One step of `fieldsFrom`, what a field that passed all five refusals tells, and the numbers that a walk gives. Assumes nothing.
+use mathlib.Core.Path.{_≡_, refl, sym, subst}
 use mathlib.Core.Bool.{Bool, true, false, not}
 use mathlib.Core.List.{List, []}
 use Prim.Native.Nat.{ℕ, zero, suc, _+_, _≤_}
@@ -8,7 +8,8 @@ use lib.Dec.{eqb, ltb}
 use lib.ListN.{length, getD, drop}
 use borrow.Author.Tests.{ltb-false, not-false}
 use Rattle.finite.specs.Base.{firstOf, when}
-use Rattle.fields.specs.Files.{Field, walk, tagOk, longOk, addField, allThere, headLong, faultWhere, fieldFault, fieldAt, fieldsFrom}
+use Rattle.finite.proofs.Tests.{first-none, when-none, when-of, fault-of}
+use Rattle.fields.specs.Files.{Field, Walk, walk, hasTag, tagOk, longOk, addField, allThere, headLong, faultWhere, fieldFault, fieldAt, fieldsFrom, walkAll}
 
 module _ (l : ℕ) (k : Bool) (fs : List Field) (r : List ℕ) where
   pub from-end : eqb (length r) 0 ≡ true → fieldsFrom (suc l) k fs r ≡ walk (when (not (allThere k fs)) 6) fs
@@ -29,14 +30,6 @@ fault-same k a b r h = go (tagOk k (getD r 0 0)) refl
     go false e = simp e
 
 -- ---- what a field that passed all five tells
-firstOf-zero : (a b : ℕ) → firstOf a b ≡ 0 → (a ≡ 0) × (b ≡ 0)
-firstOf-zero zero b e = (refl, e)
-firstOf-zero (suc a) b e = absurd (omega arith)
-
-when-zero : (b : Bool) (n : ℕ) → when b (suc n) ≡ 0 → b ≡ false
-when-zero true n e = absurd (omega arith)
-when-zero false n e = refl
-
 pub record Passed (k met : Bool) (r : List ℕ) : Type 0 where
   pub tag : tagOk k (getD r 0 0) ≡ true
   pub new : met ≡ false
@@ -45,13 +38,40 @@ pub record Passed (k met : Bool) (r : List ℕ) : Type 0 where
 
 pub passed : (k met : Bool) (r : List ℕ) → faultWhere k met r ≡ 0 → Passed k met r
 passed k met r e =
-    let (e1, f1) = firstOf-zero (when (ltb (length r) 3) 1) _ e in
-    let (e2, f2) = firstOf-zero (when (not (tagOk k (getD r 0 0))) 2) _ f1 in
-    let (e3, f3) = firstOf-zero (when met 3) _ f2 in
-    let (e4, e5) = firstOf-zero (when (not (longOk k (getD r 0 0) (headLong r))) 4) _ f3 in
+    let (e1, f1) = first-none (when (ltb (length r) 3) 1) _ e in
+    let (e2, f2) = first-none (when (not (tagOk k (getD r 0 0))) 2) _ f1 in
+    let (e3, f3) = first-none (when met 3) _ f2 in
+    let (e4, e5) = first-none (when (not (longOk k (getD r 0 0) (headLong r))) 4) _ f3 in
     record {
-      tag = not-false (tagOk k (getD r 0 0)) (when-zero (not (tagOk k (getD r 0 0))) 1 e2);
-      new = when-zero met 2 e3;
-      long = not-false (longOk k (getD r 0 0) (headLong r)) (when-zero (not (longOk k (getD r 0 0) (headLong r))) 3 e4);
-      size = ltb-false (length r) (3 + headLong r) (when-zero (ltb (length r) (3 + headLong r)) 4 e5);
+      tag = not-false (tagOk k (getD r 0 0)) (when-none (not (tagOk k (getD r 0 0))) 1 e2);
+      new = when-none met 2 e3;
+      long = not-false (longOk k (getD r 0 0) (headLong r)) (when-none (not (longOk k (getD r 0 0) (headLong r))) 3 e4);
+      size = ltb-false (length r) (3 + headLong r) (when-none (ltb (length r) (3 + headLong r)) 4 e5);
     }
+
+-- ---- a field is refused with 1 to 5, a walk with 1 to 6
+field-few : (k met : Bool) (r : List ℕ) → faultWhere k met r ≤ 5
+field-few k met r =
+    fault (ltb (length r) 3) 1 (omega arith)
+    (fault (not (tagOk k (getD r 0 0))) 2 (omega arith)
+    (fault met 3 (omega arith)
+    (fault (not (longOk k (getD r 0 0) (headLong r))) 4 (omega arith)
+    (when-of (λ n. n ≤ 5) (omega arith) (ltb (length r) (3 + headLong r)) 5 (omega arith)))))
+  where
+    fault : (t : Bool) (n : ℕ) {m : ℕ} → n ≤ 5 → m ≤ 5 → firstOf (when t n) m ≤ 5
+    fault = fault-of (λ n. n ≤ 5) (omega arith)
+
+from-few : (l : ℕ) (k : Bool) (fs : List Field) (r : List ℕ) → fieldsFrom l k fs r .number ≤ 6
+from-few zero k fs r = omega arith
+from-few (suc l) k fs r = go (eqb (length r) 0) (eqb (fieldFault k fs r) 0) refl refl (from-few l k (addField fs (fieldAt r)) (drop (3 + headLong r) r))
+  where
+    few : Walk → Type 0
+    few w = w .number ≤ 6
+
+    go : (a b : Bool) → eqb (length r) 0 ≡ a → eqb (fieldFault k fs r) 0 ≡ b → few (fieldsFrom l k (addField fs (fieldAt r)) (drop (3 + headLong r) r)) → few (fieldsFrom (suc l) k fs r)
+    go true b e f rest = subst few (sym (from-end l k fs r e)) (when-of (λ n. n ≤ 6) (omega arith) (not (allThere k fs)) 6 (omega arith))
+    go false true e f rest = subst few (sym (from-met l k fs r e f)) rest
+    go false false e f rest = subst few (sym (from-fault l k fs r e f)) (omega (arith, field-few k (hasTag (getD r 0 0) fs) r))
+
+pub walk-few : (k : Bool) (s : List ℕ) → walkAll k s .number ≤ 6
+walk-few k s = from-few (suc (length s)) k [] s

@@ -22,6 +22,10 @@ pub or-cases : (a b : Bool) → a || b ≡ true → (a ≡ true) ⊎ (b ≡ true
 or-cases true b e = inl refl
 or-cases false b e = inr e
 
+pub or-second : (a b : Bool) → a || b ≡ true → a ≡ false → b ≡ true
+or-second true b e h = absurd (true≢false h)
+or-second false b e h = e
+
 pub or-left : (a b : Bool) → a ≡ true → a || b ≡ true
 or-left true b e = refl
 or-left false b e = absurd (false≢true e)
@@ -45,6 +49,9 @@ and-left false b e = e
 pub and-right : (a b : Bool) → a && b ≡ true → b ≡ true
 and-right true b e = e
 and-right false b e = absurd (false≢true e)
+
+pub and-parts : (a b : Bool) → a && b ≡ true → (a ≡ true) × (b ≡ true)
+and-parts a b e = (and-left a b e, and-right a b e)
 
 pub and-both : (a b : Bool) → a ≡ true → b ≡ true → a && b ≡ true
 and-both a b e f = rw (e, f)
@@ -88,6 +95,19 @@ first-assoc (suc a) b c = refl
 pub when-none : (t : Bool) (n : ℕ) → when t (suc n) ≡ 0 → t ≡ false
 when-none true n e = absurd (omega arith)
 when-none false n e = refl
+
+-- what holds of none and of each fault in a row holds of the first
+module _ (P : ℕ → Type 0) (none : P 0) where
+  pub first-of : (a b : ℕ) → P a → P b → P (firstOf a b)
+  first-of zero b x y = y
+  first-of (suc a) b x y = x
+
+  pub when-of : (t : Bool) (n : ℕ) → P n → P (when t n)
+  when-of true n x = x
+  when-of false n x = none
+
+  pub fault-of : (t : Bool) (n : ℕ) {r : ℕ} → P n → P r → P (firstOf (when t n) r)
+  fault-of t n {r} x y = first-of (when t n) r (when-of t n x) y
 
 -- a test of n numbers from a on
 module _ (F : ℕ → ℕ → Bool) (t : ℕ → Bool) (none : (a : ℕ) → F 0 a ≡ true) (more : (n a : ℕ) → F (suc n) a ≡ t a && F n (suc a)) where
