@@ -17,6 +17,7 @@ use Rattle.flow.proofs.Fills.{total-has}
 use Rattle.flow.proofs.Starts.{state-start, shaped}
 use Rattle.flow.proofs.Stuck.{stuck-cut, finished}
 use Rattle.flow.proofs.Members.{members, reached-member, member-reached, member-unreached}
+use Rattle.flow.proofs.Duality.{capped-spare}
 use Rattle.flow.proofs.Lexicographic.{upto-none, priced-least}
 use Rattle.flow.proofs.Trims.{excess-sum, trim}
 use Rattle.flow.proofs.Uniques.{smaller-trans, below-smaller}
@@ -182,7 +183,7 @@ module _ (n : Network) (sound : Sound n) (e : ℕ) (is-excess : e ≡ excess n) 
   pub settled-best : (x z pot : List ℕ) → First m 0 x → Settled (residualOf m x pot) 0 (arcs n) z → Best n z
   settled-best x z pot f s =
       let first = s .first (n .supplies) (n .demands) sound-capped f in
-      best z (priced-least m sound-capped pot z cap-bounds (first .flow) (s .priced) (first .upto))
+      best z (priced-least m sound-capped pot z (capped-spare m z cap-bounds) (first .flow) (s .priced) (first .upto))
 
   pub capped-bounds : (x pot : List ℕ) → Capped (residualOf m x pot)
   capped-bounds x pot = cap-bounds

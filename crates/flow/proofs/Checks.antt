@@ -1,6 +1,6 @@
 -- A test that tells whether a network is sound: of a network that is written out, it computes.
-use mathlib.Core.Path.{_≡_, refl}
-use mathlib.Core.Bool.{Bool, true, false, _&&_}
+use mathlib.Core.Path.{_≡_}
+use mathlib.Core.Bool.{Bool, true, _&&_}
 use mathlib.Core.List.{List, [], _∷_}
 use Prim.Native.Nat.{ℕ, zero, suc, _+_, _≤_, _<_}
 use native.Mathlib.Nat.{le-of-suc-le-suc, not-suc-le-zero}
@@ -10,7 +10,7 @@ use lib.ListN.{length, getD}
 use borrow.Author.Tests.{ltb-true, leb-true, eqb-true}
 use Rattle.finite.specs.Base.{allBelow}
 use Rattle.flow.specs.Network.{Network, Sound, total, excess, costMost}
-use Rattle.finite.proofs.Tests.{not-both}
+use Rattle.finite.proofs.Tests.{and-parts}
 
 abbrev pub eachAtMost : List ℕ → List ℕ → Bool
 eachAtMost [] ys = true
@@ -32,34 +32,30 @@ inside n =
     allBelow (length (n .supplies)) (n .tails) && (allBelow (length (n .supplies)) (n .heads)
     && (eachAtMost (n .lowers) (n .uppers) && allBelow costMost (n .costs)))
 
-both : (a b : Bool) → a && b ≡ true → (a ≡ true) × (b ≡ true)
-both true b e = (refl, e)
-both false b e = absurd (not-both e refl)
-
 below-at : (k : ℕ) (xs : List ℕ) → allBelow k xs ≡ true → (a : ℕ) → a < length xs → getD xs a 0 < k
 below-at k [] e a l = absurd (not-suc-le-zero l)
-below-at k (x ∷ xs) e zero l = ltb-true x k (both (ltb x k) (allBelow k xs) e .0)
-below-at k (x ∷ xs) e (suc a) l = below-at k xs (both (ltb x k) (allBelow k xs) e .1) a (le-of-suc-le-suc l)
+below-at k (x ∷ xs) e zero l = ltb-true x k (and-parts (ltb x k) (allBelow k xs) e .0)
+below-at k (x ∷ xs) e (suc a) l = below-at k xs (and-parts (ltb x k) (allBelow k xs) e .1) a (le-of-suc-le-suc l)
 
 most-at : (xs ys : List ℕ) → eachAtMost xs ys ≡ true → length ys ≡ length xs → (a : ℕ) → a < length xs → getD xs a 0 ≤ getD ys a 0
 most-at [] ys e q a l = absurd (not-suc-le-zero l)
 most-at (x ∷ xs) [] e q a l = absurd (omega arith)
-most-at (x ∷ xs) (y ∷ ys) e q zero l = leb-true x y (both (leb x y) (eachAtMost xs ys) e .0)
-most-at (x ∷ xs) (y ∷ ys) e q (suc a) l = most-at xs ys (both (leb x y) (eachAtMost xs ys) e .1) (omega arith) a (le-of-suc-le-suc l)
+most-at (x ∷ xs) (y ∷ ys) e q zero l = leb-true x y (and-parts (leb x y) (eachAtMost xs ys) e .0)
+most-at (x ∷ xs) (y ∷ ys) e q (suc a) l = most-at xs ys (and-parts (leb x y) (eachAtMost xs ys) e .1) (omega arith) a (le-of-suc-le-suc l)
 
 pub checked-sound : (n : Network) → longAs n ≡ true → fits n ≡ true → inside n ≡ true → Sound n
 checked-sound n long fit in′ =
-    let (h, long₁) = both _ _ long in
-    let (l, long₂) = both _ _ long₁ in
-    let (u, long₃) = both _ _ long₂ in
-    let (c, d) = both _ _ long₃ in
-    let (arcs, fit₁) = both _ _ fit in
-    let (nodes, fit₂) = both _ _ fit₁ in
-    let (even, fit₃) = both _ _ fit₂ in
-    let (small, few) = both _ _ fit₃ in
-    let (t-in, in₁) = both _ _ in′ in
-    let (h-in, in₂) = both _ _ in₁ in
-    let (order, cheap) = both _ _ in₂ in
+    let (h, long₁) = and-parts _ _ long in
+    let (l, long₂) = and-parts _ _ long₁ in
+    let (u, long₃) = and-parts _ _ long₂ in
+    let (c, d) = and-parts _ _ long₃ in
+    let (arcs, fit₁) = and-parts _ _ fit in
+    let (nodes, fit₂) = and-parts _ _ fit₁ in
+    let (even, fit₃) = and-parts _ _ fit₂ in
+    let (small, few) = and-parts _ _ fit₃ in
+    let (t-in, in₁) = and-parts _ _ in′ in
+    let (h-in, in₂) = and-parts _ _ in₁ in
+    let (order, cheap) = and-parts _ _ in₂ in
     let hl = eqb-true (length (n .heads)) (length (n .tails)) h in
     let ll = eqb-true (length (n .lowers)) (length (n .tails)) l in
     let ul = eqb-true (length (n .uppers)) (length (n .tails)) u in

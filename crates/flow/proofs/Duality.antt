@@ -61,7 +61,14 @@ mixed-sum n sound p x y =
     let h : ℕ → ℕ = λ a. worth p (head n a) (getD y a 0) in
     omega (arith, sum-add m c (λ a. t a + h a), sum-add m t h, costOf-sum (n .costs) x, ap (λ (k : ℕ). sumBelow k c) (sound .costs-long))
 
-module _ (n : Network) (sound : Sound n) (x p : List ℕ) (capped : Capped (residualOf n x p)) (flow : Flow n x) (priced : Priced (residualOf n x p)) (y : List ℕ) (other : Flow n y) where
+-- every arc without a bound carries less than the number that says so
+abbrev pub Spare : Network → List ℕ → Type 0
+Spare n x = (a : ℕ) → a < arcs n → upper n a ≡ unbounded → getD x a 0 < unbounded
+
+pub capped-spare : (n : Network) (x : List ℕ) → ((a : ℕ) → a < arcs n → upper n a < unbounded) → Spare n x
+capped-spare n x capped a l e = absurd (omega (arith, capped a l))
+
+module _ (n : Network) (sound : Sound n) (x p : List ℕ) (spare : Spare n x) (flow : Flow n x) (priced : Priced (residualOf n x p)) (y : List ℕ) (other : Flow n y) where
   arc : (a : ℕ) → a < arcs n
       → Shifted (cost n a + getD p (tail n a) 0) (getD p (head n a) 0) (getD x a 0) (getD y a 0)
   arc a l =
@@ -70,7 +77,7 @@ module _ (n : Network) (sound : Sound n) (x p : List ℕ) (capped : Capped (resi
       (λ h. priced .down a l (omega (arith, other .above a l)))
     where
       room : getD x a 0 < getD y a 0 → (upper n a ≡ unbounded) ⊎ (getD y a 0 ≤ upper n a) → getD x a 0 < upper n a
-      room h (inl e) = absurd (omega (arith, capped a l))
+      room h (inl e) = omega (arith, spare a l e)
       room h (inr m) = omega arith
 
   arc-even : (a : ℕ) (l : a < arcs n) → mixed n p x y a + arc a l .d * arc a l .e ≡ mixed n p y x a
@@ -101,4 +108,4 @@ module _ (n : Network) (sound : Sound n) (x p : List ℕ) (capped : Capped (resi
       go (inr z) = inr (arc a l .kept z)
 
 pub priced-same-cost : (n : Network) → Sound n → (x z p : List ℕ) → Capped (residualOf n x p) → Flow n x → Priced (residualOf n x p) → Flow n z → Priced (residualOf n z p) → costOf (n .costs) z ≡ costOf (n .costs) x
-priced-same-cost n sound x z p capped fx px fz pz = omega (arith, priced-cheapest n sound x p capped fx px z fz, priced-cheapest n sound z p capped fz pz x fx)
+priced-same-cost n sound x z p capped fx px fz pz = omega (arith, priced-cheapest n sound x p (capped-spare n x capped) fx px z fz, priced-cheapest n sound z p (capped-spare n z capped) fz pz x fx)

@@ -14,9 +14,9 @@ use Rattle.finite.proofs.Order.{Order, less, same, more, order}
 use Rattle.finite.proofs.Tests.{not-both}
 use Rattle.residual.specs.Prices.{Priced}
 use Rattle.flow.specs.Network.{Network, Flow, Sound, Least, costOf, smaller}
-use Rattle.flow.specs.Solver.{residualOf, Agree, Upto, Capped}
+use Rattle.flow.specs.Solver.{residualOf, Agree, Upto}
 use Rattle.flow.proofs.Names.{arcs, Free, AtLower}
-use Rattle.flow.proofs.Duality.{priced-cheapest, frozen-kept}
+use Rattle.flow.proofs.Duality.{Spare, priced-cheapest, frozen-kept}
 use Rattle.flow.proofs.Stage.{Barrier, stage}
 
 -- ---- the order of flows by their first difference
@@ -102,9 +102,9 @@ upto-all n x long u y f c = go (u y f c)
 
 -- ---- with potentials
 
-module _ (n : Network) (sound : Sound n) (p x : List ℕ) (capped : Capped (residualOf n x p)) (flow : Flow n x) (priced : Priced (residualOf n x p)) where
+module _ (n : Network) (sound : Sound n) (p x : List ℕ) (spare : Spare n x) (flow : Flow n x) (priced : Priced (residualOf n x p)) where
   pub priced-least : Upto (arcs n) n x → Least n x
-  priced-least u = record { flow = flow; cheapest = priced-cheapest n sound x p capped flow priced; first = upto-all n x (flow .long) u }
+  priced-least u = record { flow = flow; cheapest = priced-cheapest n sound x p spare flow priced; first = upto-all n x (flow .long) u }
 
   module _ (k : ℕ) (l : k < arcs n) (u : Upto k n x) where
     -- the arc k carries no more than it must
@@ -113,7 +113,7 @@ module _ (n : Network) (sound : Sound n) (p x : List ℕ) (capped : Capped (resi
 
     -- the arc k is frozen
     pub upto-frozen : (Free n k p → ⊥) → Upto (k + 1) n x
-    upto-frozen h = upto-more n x k (flow .long) l u (λ y f c e. go y (frozen-kept n sound x p capped flow priced y f c k l))
+    upto-frozen h = upto-more n x k (flow .long) l u (λ y f c e. go y (frozen-kept n sound x p spare flow priced y f c k l))
       where
         go : (y : List ℕ) → Free n k p ⊎ (getD y k 0 ≡ getD x k 0) → getD x k 0 ≤ getD y k 0
         go y (inl b) = absurd (h b)
@@ -121,4 +121,4 @@ module _ (n : Network) (sound : Sound n) (p x : List ℕ) (capped : Capped (resi
 
     -- no unit can go round otherwise than by the arc k
     pub upto-barrier : (s : List Bool) → Barrier n p x s k → Upto (k + 1) n x
-    upto-barrier s b = upto-more n x k (flow .long) l u (λ y f c e. stage n sound p x s k flow b y f e (frozen-kept n sound x p capped flow priced y f c) l)
+    upto-barrier s b = upto-more n x k (flow .long) l u (λ y f c e. stage n sound p x s k flow b y f e (frozen-kept n sound x p spare flow priced y f c) l)

@@ -20,3 +20,4 @@ pub mod Trims
 pub mod Uniques
 pub mod Capping
 pub mod Checks
+pub mod Certificates
