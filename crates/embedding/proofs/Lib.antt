@@ -16,4 +16,4 @@ pub mod Labelling
 pub mod Numbering
 pub mod Whole
 pub mod Answers
-pub mod Before
+pub mod Loops

@@ -1,27 +1,62 @@
--- What changed when strips from a post to itself were accepted: nothing where there is none, and what was accepted is.
-use mathlib.Core.Path.{_≡_, sym, _∙_}
-use mathlib.Core.Bool.{Bool, false, _||_, not}
-use Prim.Native.Nat.{ℕ}
-use lib.Dec.{eqb, ltb}
-use Rattle.finite.proofs.Tests.{first-none, when-none}
-use Rattle.embedding.specs.Plates.{firstOf, when, allBelow, Plate, darts, plateFault}
-use Rattle.embedding.specs.Before.{someLoop, plateFaultBefore}
+-- A strip from a post to itself has both its darts among the four of its post, and only such a dart comes straight back to itself. A plate's refusal without 10 is that with it, wherever that is not 10. Assumes nothing.
+use mathlib.Core.Path.{_≡_, refl, sym, ap, subst, _∙_}
+use mathlib.Core.Bool.{Bool, true, false, _&&_, _||_, not}
+use mathlib.Core.List.{List, _∷_}
+use Prim.Native.Nat.{ℕ, zero, suc, _+_, _<_}
+use native.Mathlib.Omega.{arith}
+use borrow.Author.Tests.{eq-eqb}
+use lib.Dec.{eqb, ltb, leb}
+use lib.ListN.{length}
+use Rattle.finite.proofs.Tests.{when-of, fault-of}
+use Rattle.embedding.specs.Plates.{firstOf, when, isIn, allBelow, Plate, darts, twin, leaves, endsAt, degreeFrom, partOf, overFour, partsOk, after, connected, isPlane, plateFault}
+use Rattle.embedding.specs.Loops.{someLoop, plateFaultBefore, TwoPlaces}
+use Rattle.embedding.proofs.Degrees.{over-most}
+use Rattle.embedding.proofs.Faultless.{Faultless}
+use Rattle.embedding.proofs.Rotation.{Ordered, twin-dart, twin-differs, leaves-below, length-part, part-distinct, own-part, after-leaves}
 
--- a plate without such a strip is answered as before
-pub same-fault : (p : Plate) → someLoop (p .ends) ≡ false → plateFaultBefore p ≡ plateFault p
-same-fault p h = rw h
+-- it is counted twice at its post
+pub counted-twice : (v : ℕ) (es : List ℕ) → degreeFrom v (v ∷ (v ∷ es)) ≡ 2 + degreeFrom v es
+counted-twice v es = rw (eq-eqb v v refl) (omega arith)
 
--- no refusal before: not the fourth
-fourth : (a b c d : ℕ) (t : Bool) → firstOf a (firstOf b (firstOf c (firstOf (when t 10) d))) ≡ 0 → t ≡ false
-fourth a b c d t e =
-    let after-a = first-none a (firstOf b (firstOf c (firstOf (when t 10) d))) e in
-    let after-b = first-none b (firstOf c (firstOf (when t 10) d)) (after-a .1) in
-    let after-c = first-none c (firstOf (when t 10) d) (after-b .1) in
-    when-none t 9 (first-none (when t 10) d (after-c .1) .0)
+module _ (p : Plate) (f : Faultless p) (o : Ordered p) (d : ℕ) (l : d < darts p) where
+  pub two-places : endsAt p d ≡ leaves p d → TwoPlaces p d
+  two-places e =
+      record {
+        own = own-part p o d l;
+        twins = subst (λ (v : ℕ). isIn (twin d) (partOf p v) ≡ true) e (own-part p o (twin d) (twin-dart p o d l));
+        apart = twin-differs d;
+        once = part-distinct p o (leaves p d) (leaves-below p o d l);
+        four-most = omega (arith, length-part p o (leaves p d), over-most p (p .posts) (f .four-most) (leaves p d) (leaves-below p o d l));
+      }
 
-pub no-loop-before : (p : Plate) → plateFaultBefore p ≡ 0 → someLoop (p .ends) ≡ false
-no-loop-before p = fourth (when (eqb (p .posts) 0 || ltb 64 (p .posts)) 7) (when (eqb (darts p) 0) 8) (when (not (allBelow (p .posts) (p .ends))) 9) _ (someLoop (p .ends))
+  pub straight-back : after p d ≡ d → endsAt p d ≡ leaves p d
+  straight-back e = sym (after-leaves p o d l) ∙ ap (leaves p) e
 
--- what was accepted is
-pub accepted-before : (p : Plate) → plateFaultBefore p ≡ 0 → plateFault p ≡ 0
-accepted-before p e = sym (same-fault p (no-loop-before p e)) ∙ e
+-- the fourth of five refusals does not matter where it is not given
+without-fourth : (a b c d : ℕ) (t : Bool) → (firstOf a (firstOf b (firstOf c (firstOf (when t 10) d))) ≡ 10 → ⊥) → firstOf a (firstOf b (firstOf c d)) ≡ firstOf a (firstOf b (firstOf c (firstOf (when t 10) d)))
+without-fourth (suc a) b c d t n = refl
+without-fourth zero (suc b) c d t n = refl
+without-fourth zero zero (suc c) d t n = refl
+without-fourth zero zero zero d true n = absurd (n refl)
+without-fourth zero zero zero d false n = refl
+
+pub same-fault : (p : Plate) → (plateFaultBefore p ≡ 10 → ⊥) → plateFault p ≡ plateFaultBefore p
+same-fault p = without-fourth (when (eqb (p .posts) 0 || ltb 64 (p .posts)) 7) (when (eqb (darts p) 0) 8) (when (not (allBelow (p .posts) (p .ends))) 9) _ (someLoop (p .ends))
+
+-- 10 is not given
+pub never-ten : (p : Plate) → plateFault p ≡ 10 → ⊥
+never-ten p =
+    fault (eqb (p .posts) 0 || ltb 64 (p .posts)) 7 (λ e. omega arith)
+    (fault (eqb (darts p) 0) 8 (λ e. omega arith)
+    (fault (not (allBelow (p .posts) (p .ends))) 9 (λ e. omega arith)
+    (fault (overFour (p .posts) 0 p) 11 (λ e. omega arith)
+    (fault (not (eqb (length (p .order)) (darts p) && partsOk (p .posts) 0 p)) 12 (λ e. omega arith)
+    (fault (leb (darts p) (p .outer)) 13 (λ e. omega arith)
+    (fault (not (connected p)) 14 (λ e. omega arith)
+    (when-of other (λ e. omega arith) (not (isPlane p)) 15 (λ e. omega arith))))))))
+  where
+    other : ℕ → Type 0
+    other n = n ≡ 10 → ⊥
+
+    fault : (t : Bool) (n : ℕ) {r : ℕ} → other n → other r → other (firstOf (when t n) r)
+    fault = fault-of other (λ e. omega arith)

@@ -1,6 +1,6 @@
 -- Plane plates: the definitions that the contracts cite.
 pub mod Plates
-pub mod Before
+pub mod Loops
 pub mod Pass
 pub mod Steps
 pub mod Read

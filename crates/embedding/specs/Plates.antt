@@ -47,7 +47,7 @@ before p (suc v) = degree p v + before p v
 abbrev pub partOf : Plate → ℕ → List ℕ
 partOf p v = take (degree p v) (drop (before p v) (p .order))
 
--- 7 to 13, but 10, which is no longer given: a strip may join a post to itself, and takes two of its places
+-- 7 to 13; 10 is not given: a strip may join a post to itself, and takes two of its places
 abbrev pub overFour : ℕ → ℕ → Plate → Bool
 overFour zero v p = false
 overFour (suc n) v p = ltb 4 (degree p v) || overFour n (suc v) p

@@ -4,7 +4,7 @@ ghost use Prim.Native.Nat.{_≤_};
 ghost use Rattle.embedding.specs.Pass.{noStrips, addEnd, addStrip, GoneOn, Answered};
 use crate::wide;
 
-// What was met so far: an end that is no post (9), a fifth strip end at a post (11); and how many strip ends each post has, counted up to four. A strip from a post to itself has both its ends there.
+// What was met so far: an end that is no post (9), a fifth place taken at a post (11); and how many places are taken at each post, one by each strip end, counted up to four.
 pub struct Strips {
     pub stray: bool,
     pub over: bool,

@@ -22,3 +22,4 @@ pub mod CheckSound
 pub mod ListingSaid
 pub mod P1
 pub mod Calls
+pub mod Loops

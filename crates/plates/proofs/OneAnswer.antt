@@ -1,18 +1,21 @@
 -- The promises leave no choice: two results that fulfil one of them are the same, since a list has one best shape. Assumes nothing.
-use mathlib.Core.Path.{_≡_, refl, sym, ap, ap₂, _∙_}
+use mathlib.Core.Path.{_≡_, refl, sym, ap, ap₂, subst, _∙_}
 use mathlib.Core.Bool.{Bool, true, false, _&&_}
 use mathlib.Core.List.{List}
-use Prim.Native.Nat.{ℕ, zero, suc}
+use Prim.Native.Nat.{ℕ, zero, suc, _≤_}
+use borrow.Author.Tests.{le-ltb}
 use lib.Dec.{ltb}
 use lib.ListN.{length}
 use Rattle.plates.specs.declared.Shaped.{Shaped}
 use Rattle.plates.specs.declared.Verdict.{Verdict}
 use Rattle.plates.specs.declared.Listed.{Listed}
-use Rattle.plates.specs.Plates.{pickT}
-use Rattle.plates.specs.Shapes.{total, same, shapeOf}
+use Rattle.plates.specs.Plates.{pickT, firstOf, when}
+use Rattle.plates.specs.Shapes.{rightsOf, total, same, shapeOf}
 use Rattle.plates.specs.Files.{walkAll, contentOf, listFault, plateOf, shapeBytes}
-use Rattle.plates.specs.Says.{over, word, anglesIn, rightsIn, shapeFault, checkFault, ShapeWith, ShapeSays, CheckWith, CheckSays}
+use Rattle.plates.specs.Claims.{Best}
+use Rattle.plates.specs.Says.{over, word, anglesIn, rightsIn, fileLong, shapeFault, checkFault, ShapeWith, ShapeSays, CheckWith, CheckSays}
 use Rattle.plates.specs.Listing.{listingText, refusedText, Gives, ListingWith, ListingSays}
+use Rattle.plates.specs.Answers.{shaped}
 use Rattle.plates.proofs.Verdicts.{same-counts}
 
 shape-with : (f : ℕ) (s o o₁ o₂ : List ℕ) (r q : Shaped) → ShapeWith f s o o₁ r → ShapeWith f s o o₂ q → (o₁ ≡ o₂) × (r ≡ q)
@@ -32,6 +35,15 @@ shape-with (suc f) s o o₁ o₂ r q (n, long, bends, out) (m, long′, bends′
 
 pub shape-only : (s o o₁ o₂ : List ℕ) (r q : Shaped) → ShapeSays s o o₁ r → ShapeSays s o o₂ q → (o₁ ≡ o₂) × (r ≡ q)
 shape-only s o = shape-with (shapeFault s o) s o
+
+-- the counts of the best shape known: what is answered and written to memory that is long enough
+pub written-only : (s a x o o′ : List ℕ) (r : Shaped) → listFault s ≡ 0 → fileLong s ≤ length o
+    → Best (plateOf s) (shapeOf (plateOf s) a x) → rightsOf (shapeOf (plateOf s) a x .words) ≡ x → ShapeSays s o o′ r
+    → let b = shapeBytes (walkAll false s .fields) (shapeOf (plateOf s) a x) in (o′ ≡ over b o) × (r ≡ shaped 0 (length b) (total x))
+written-only s a x o o′ r e l best counts says =
+    let b = shapeBytes (walkAll false s .fields) (shapeOf (plateOf s) a x) in
+    let accepted : shapeFault s o ≡ 0 = ap₂ (λ (n : ℕ) (t : Bool). firstOf n (when t 16)) e (le-ltb (length o) (fileLong s) l) in
+    shape-with 0 s o o′ (over b o) r (shaped 0 (length b) (total x)) (subst (λ (f : ℕ). ShapeWith f s o o′ r) accepted says) (refl, (a, x, best, counts, (refl, refl, refl)))
 
 check-with : (f : ℕ) (s t : List ℕ) (r q : Verdict) → CheckWith f s t r → CheckWith f s t q → r ≡ q
 check-with zero s t r q (n, tot, (a, x, best, counts, (few, ours))) (m, tot′, (b, y, best′, counts′, (few′, ours′))) =

@@ -10,3 +10,4 @@ pub mod Encodes
 pub mod Checks
 pub mod Listing
 pub mod Answers
+pub mod Loops

@@ -50,21 +50,23 @@ anglesIn t = contentOf 19 (walkAll true t .fields)
 abbrev pub rightsIn : List ℕ → List ℕ
 rightsIn t = contentOf 20 (walkAll true t .fields)
 
-abbrev pub checkFault : List ℕ → List ℕ → ℕ
-checkFault s t =
+abbrev pub fileFault : List ℕ → List ℕ → ℕ
+fileFault s t =
     let p = plateOf s in
     let w = walkAll true t in
     let a = anglesIn t in
     let r = rightsIn t in
     let ws = shapeOf p a r .words in
-    firstOf (listFault s)
-    (firstOf (w .number)
+    firstOf (w .number)
     (firstOf (when (not (eqb (length a) (darts p) && eqb (length r) (darts p))) 17)
     (firstOf (when (not (eqb (word (contentOf 1 (walkAll false s .fields))) (word (contentOf 17 (w .fields))))) 18)
     (firstOf (when (not (anglesOk a)) 19)
     (firstOf (when (not (postsOk (p .posts) 0 p a)) 20)
     (firstOf (when (not (facesOk p a ws (faces p))) 21)
-    (when (not (eqb (word (contentOf 18 (w .fields))) (total r))) 22)))))))
+    (when (not (eqb (word (contentOf 18 (w .fields))) (total r))) 22))))))
+
+abbrev pub checkFault : List ℕ → List ℕ → ℕ
+checkFault s t = firstOf (listFault s) (fileFault s t)
 
 -- a sound verdict: the file's total, the plate's fewest, whether angles and right bends are those written
 abbrev pub CheckWith : ℕ → List ℕ → List ℕ → DV.Verdict → Type 0
