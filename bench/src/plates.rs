@@ -2,7 +2,7 @@
 
 use plates_tests::files::list_bytes;
 use plates_tests::plate::Plate;
-use plates_tests::random::{double_ring, plane_plate, Random};
+use plates_tests::random::{double_ring, looped_ring, plane_plate, Random};
 
 /// A plate with its name, as a command line gives it.
 pub struct Named {
@@ -14,7 +14,7 @@ pub struct Named {
 }
 
 /// Families that are measured with 4, 16 and 64 posts.
-pub const FAMILIES: [&str; 4] = ["grid", "tree", "path", "double"];
+pub const FAMILIES: [&str; 5] = ["grid", "tree", "path", "double", "looped"];
 
 /// The first three seeds that give 64 posts and 113 to 117 strips.
 const SEEDS: [u64; 3] = [207, 800, 1782];
@@ -62,7 +62,8 @@ fn of_family(family: &str, side: usize) -> Plate {
         "grid" => grid(side),
         "tree" => tree(side * side, 3),
         "path" => tree(side * side, 1),
-        _ => ring(side * side),
+        "double" => one_side_out(double_ring(side * side)),
+        _ => one_side_out(looped_ring(side * side)),
     }
 }
 
@@ -114,9 +115,8 @@ fn tree(posts: usize, below: usize) -> Plate {
     }
 }
 
-/// A ring with every strip doubled. The outside is one side of the ring.
-fn ring(posts: usize) -> Plate {
-    let mut plate = double_ring(posts);
-    plate.outer = 1;
-    plate
+/// A ring whose outside is one side of it.
+fn one_side_out(mut ring: Plate) -> Plate {
+    ring.outer = 1;
+    ring
 }

@@ -62,6 +62,11 @@ impl Plate {
         ends.filter(|&&end| end == post).count()
     }
 
+    /// Whether some strip goes from a post to itself.
+    pub fn has_loop(&self) -> bool {
+        self.strips.iter().any(|[first, second]| first == second)
+    }
+
     /// The dart after `dart` on its face: just before its twin, clockwise,
     /// at the post where it ends.
     pub fn after(&self, dart: usize) -> usize {

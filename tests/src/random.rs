@@ -91,14 +91,16 @@ fn split(plate: &mut Plate, random: &mut Random) {
     plate.posts += 1;
 }
 
-/// Joins two corners of one face by a new strip.
-fn join(plate: &mut Plate, random: &mut Random) {
+/// Joins two corners of one face by a new strip. Where `loops` are wanted they
+/// may be at one post, or even the same.
+fn join(plate: &mut Plate, loops: bool, random: &mut Random) {
     let faces = plate.faces();
     let face = &faces[random.below(faces.len())];
     let a = face[random.below(face.len())];
     let b = face[random.below(face.len())];
     let (first, second) = (plate.head(a), plate.head(b));
-    if first == second || plate.degree(first) == 4 || plate.degree(second) == 4 {
+    let most = if first == second { 2 } else { 3 };
+    if first == second && !loops || plate.degree(first) > most || plate.degree(second) > most {
         return;
     }
     let new = plate.darts();
@@ -107,14 +109,20 @@ fn join(plate: &mut Plate, random: &mut Random) {
     plate.strips.push([first, second]);
 }
 
-/// A plane plate made by random splits, hangs and joins, with their shares of
-/// all steps in tenths.
-fn grow(plate: &mut Plate, posts: usize, joins: usize, hangs: usize, random: &mut Random) {
+/// Lets a plane plate grow by random splits, hangs and joins, with their shares
+/// of all steps in tenths.
+fn grow(
+    plate: &mut Plate,
+    posts: usize,
+    [joins, hangs]: [usize; 2],
+    loops: bool,
+    random: &mut Random,
+) {
     for _ in 0..20 * posts {
         let step = random.below(10);
         if step < joins {
             if plate.strips.len() < 128 {
-                join(plate, random);
+                join(plate, loops, random);
             }
         } else if plate.posts < posts {
             if step < joins + hangs {
@@ -127,7 +135,8 @@ fn grow(plate: &mut Plate, posts: usize, joins: usize, hangs: usize, random: &mu
 }
 
 /// The medial plate: a post for each strip, a strip for each corner. Every
-/// post has four strips. The given plate must have no post of degree 1.
+/// post has four strip ends. A post or a face of one dart gives a strip from a
+/// post to itself.
 fn medial(plate: &Plate) -> Plate {
     let darts = plate.darts();
     let mut before = vec![0; darts];
@@ -172,14 +181,38 @@ fn renumber(plate: &Plate, random: &mut Random) -> Plate {
     new
 }
 
-/// A random plane plate with at most `most` posts and twice as many strips.
+/// A random plane plate with at most `most` posts and twice as many strips,
+/// each between two posts.
 pub fn plane_plate(most: usize, random: &mut Random) -> Plate {
+    grown_plate(most, false, random)
+}
+
+/// The same with one or more strips from a post to itself.
+pub fn looped_plate(most: usize, random: &mut Random) -> Plate {
+    loop {
+        let plate = grown_plate(most, true, random);
+        if plate.has_loop() {
+            return plate;
+        }
+    }
+}
+
+/// A random plane plate, with or without strips from a post to itself.
+pub fn any_plate(most: usize, random: &mut Random) -> Plate {
+    if random.below(2) == 0 {
+        looped_plate(most, random)
+    } else {
+        plane_plate(most, random)
+    }
+}
+
+fn grown_plate(most: usize, loops: bool, random: &mut Random) -> Plate {
     let posts = 2 + random.below(most - 1);
     let plate = match random.below(4) {
         0 => {
             let mut base = two_strips();
             let joins = 3 + random.below(5);
-            grow(&mut base, 2 + posts / 2, joins, 0, random);
+            grow(&mut base, 2 + posts / 2, [joins, 0], loops, random);
             if base.strips.len() <= most {
                 medial(&base)
             } else {
@@ -188,14 +221,14 @@ pub fn plane_plate(most: usize, random: &mut Random) -> Plate {
         }
         1 => {
             let mut plate = two_strips();
-            grow(&mut plate, posts, 8, 0, random);
+            grow(&mut plate, posts, [8, 0], loops, random);
             plate
         }
         _ => {
             let mut plate = one_strip();
             let joins = random.below(9);
             let hangs = random.below(10 - joins);
-            grow(&mut plate, posts, joins, hangs, random);
+            grow(&mut plate, posts, [joins, hangs], loops, random);
             plate
         }
     };
@@ -204,7 +237,7 @@ pub fn plane_plate(most: usize, random: &mut Random) -> Plate {
 
 /// A plane plate, with the orders round a few posts shuffled: often not plane.
 pub fn shuffled_plate(most: usize, random: &mut Random) -> Plate {
-    let mut plate = plane_plate(most, random);
+    let mut plate = any_plate(most, random);
     for _ in 0..1 + random.below(3) {
         let post = random.below(plate.posts);
         random.shuffle(&mut plate.order[post]);
@@ -221,6 +254,28 @@ pub fn double_ring(posts: usize) -> Plate {
         strips.extend([[post, next], [post, next]]);
         let last = (post + posts - 1) % posts;
         order.push(vec![4 * post, 4 * post + 2, 4 * last + 3, 4 * last + 1]);
+    }
+    Plate {
+        posts,
+        strips,
+        order,
+        outer: 0,
+    }
+}
+
+/// A ring of posts, each with a strip to itself, on one side of the ring and on
+/// the other in turn: every post has four places taken.
+pub fn looped_ring(posts: usize) -> Plate {
+    let mut strips = Vec::new();
+    let mut order = Vec::new();
+    for post in 0..posts {
+        strips.extend([[post, (post + 1) % posts], [post, post]]);
+        let last = (post + posts - 1) % posts;
+        let mut around = vec![4 * post, 4 * post + 2, 4 * post + 3, 4 * last + 1];
+        if post % 2 == 1 {
+            around[1..].rotate_right(1);
+        }
+        order.push(around);
     }
     Plate {
         posts,

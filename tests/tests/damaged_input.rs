@@ -4,7 +4,7 @@ use plates_tests::cancelling;
 use plates_tests::compare;
 use plates_tests::files::{read_list, shape_bytes};
 use plates_tests::long_mode;
-use plates_tests::random::{list_of, plane_plate, Random};
+use plates_tests::random::{any_plate, list_of, Random};
 use plates_tests::remembered::cancel_once;
 
 /// The fields of a sound file, each with its tag and length.
@@ -84,9 +84,10 @@ fn changed_lengths(file: &[u8], visit: &mut dyn FnMut(&[u8])) {
     }
 }
 
-/// The list of a random plate with at most so many posts.
+/// The list of a random plate with at most so many posts, perhaps with strips
+/// from a post to itself.
 fn random_list(most: usize, random: &mut Random) -> Vec<u8> {
-    list_of(&plane_plate(most, random), random)
+    list_of(&any_plate(most, random), random)
 }
 
 /// Sizes of the plates to be damaged: mostly small.
@@ -129,10 +130,7 @@ fn damaged_lists() {
         });
     }
     print_numbers("damaged lists", &numbers);
-    // 10 is no longer given.
-    let own = (1..=14).filter(|&number| number != 10);
-    own.for_each(|number| assert_ne!(numbers[number], 0, "number {number}"));
-    assert_eq!(numbers[10], 0);
+    (1..=14).for_each(|number| assert_eq!(numbers[number] == 0, number == 10, "number {number}"));
 }
 
 #[test]
@@ -181,7 +179,7 @@ fn damaged_lists_with_shapes() {
     (0..=6).for_each(|number| assert_ne!(numbers[number], 0, "number {number}"));
 }
 
-/// The random plates that `random_plates.rs` compares: the list and its best
+/// Random plates as `random_plates.rs` compares them: the list and its best
 /// shape with each byte changed, cut at each length, with fields exchanged,
 /// doubled and left out.
 #[test]

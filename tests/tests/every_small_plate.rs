@@ -8,10 +8,12 @@ use plates_tests::plate::Plate;
 use plates_tests::remembered::search_once;
 use plates_tests::{long_mode, search};
 
-/// How many plates were compared.
+/// How many plates were compared, and how many of those accepted have a strip
+/// from a post to itself.
 #[derive(Debug, Default)]
 struct Counts {
     accepted: usize,
+    with_loop: usize,
     refused: usize,
 }
 
@@ -24,22 +26,12 @@ enum Orders {
     Cyclic,
 }
 
-/// Calls `visit` with every plate of `strips` strips between two posts, and up
-/// to one post more, with every order and every outer dart. More posts cannot
-/// be connected.
+/// Calls `visit` with every plate of `strips` strips, some perhaps from a post
+/// to itself, and up to one post more, with every order and every outer dart.
+/// More posts cannot be connected.
 fn each_plate(strips: usize, orders: Orders, visit: &mut dyn FnMut(&Plate)) {
-    each_plate_of(strips, |first, second| first != second, orders, visit);
-}
-
-/// The same with the strips that `taken` takes.
-fn each_plate_of(
-    strips: usize,
-    taken: fn(usize, usize) -> bool,
-    orders: Orders,
-    visit: &mut dyn FnMut(&Plate),
-) {
     for posts in 1..=strips + 1 {
-        each_strips(posts, strips, taken, &mut Vec::new(), &mut |strips| {
+        each_strips(posts, strips, &mut Vec::new(), &mut |strips| {
             each_order(posts, strips, orders, visit);
         });
     }
@@ -48,7 +40,6 @@ fn each_plate_of(
 fn each_strips(
     posts: usize,
     more: usize,
-    taken: fn(usize, usize) -> bool,
     start: &mut Vec<[usize; 2]>,
     visit: &mut dyn FnMut(&[[usize; 2]]),
 ) {
@@ -56,9 +47,9 @@ fn each_strips(
         return visit(start);
     }
     for first in 0..posts {
-        for second in (0..posts).filter(|&second| taken(first, second)) {
+        for second in 0..posts {
             start.push([first, second]);
-            each_strips(posts, more - 1, taken, start, visit);
+            each_strips(posts, more - 1, start, visit);
             start.pop();
         }
     }
@@ -122,6 +113,7 @@ fn compare_plate(plate: &Plate, best: Solver, counts: &mut Counts) {
         return;
     }
     counts.accepted += 1;
+    counts.with_loop += usize::from(plate.has_loop());
     if counts.accepted % 16 == 0 {
         let read = read_list(&list).expect("the list was accepted");
         for shape in [best(plate), cancelling::any(plate)] {
@@ -161,22 +153,6 @@ fn every_plate_with_three_strips() {
 fn every_plate_with_four_strips() {
     if long_mode() {
         compare_all(4, search_once);
-    }
-}
-
-/// Request E5: every plate with up to three strips, one or more of them from a
-/// post to itself.
-#[test]
-fn every_plate_with_a_strip_to_itself() {
-    for strips in 1..=3 {
-        let mut counts = Counts::default();
-        each_plate_of(strips, |_, _| true, Orders::All, &mut |plate| {
-            if plate.strips.iter().any(|[first, second]| first == second) {
-                compare_plate(plate, search_once, &mut counts);
-            }
-        });
-        println!("{strips} strips, some to itself: {counts:?}");
-        assert!(counts.accepted > 0);
     }
 }
 

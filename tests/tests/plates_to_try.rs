@@ -164,15 +164,20 @@ fn p10_strips_at_a_post() {
     assert_eq!(refused(&list_bytes(&by_number(6, &star, 0), 7, None)), 11);
 }
 
-/// Request E5: a strip from a post to itself takes two places.
+/// Request E5: a strip from a post to itself takes two places; one inside the
+/// other needs two more bends.
 #[test]
 fn e5_strips_to_itself() {
-    try_plate(&plate(1, &[[0, 0]], 1), &[3, 0], &[1, 3]);
-    try_plate(&plate(1, &[[0, 0]; 2], 1), &[3, 0, 3, 0], &[1; 4]);
-    assert_eq!(
-        refused(&list_bytes(&plate(1, &[[0, 0]; 3], 1), 7, None)),
-        11
-    );
+    let loops = |count| by_number(1, &vec![[0, 0]; count], 1);
+    try_plate(&loops(1), &[3, 0], &[1, 3]);
+    try_plate(&loops(2), &[3, 0, 3, 0], &[1; 4]);
+    assert_eq!(refused(&list_bytes(&loops(3), 7, None)), 11);
+    let mut nested = loops(2);
+    nested.order = vec![vec![0, 2, 3, 1]];
+    try_plate(&nested, &[5, 0, 3, 0], &[1; 4]);
+    let mut crossed = loops(2);
+    crossed.order = vec![vec![0, 2, 1, 3]];
+    assert_eq!(refused(&list_bytes(&crossed, 7, None)), 15);
 }
 
 #[test]

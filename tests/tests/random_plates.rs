@@ -5,8 +5,10 @@ use plates_tests::certificate::is_best;
 use plates_tests::compare;
 use plates_tests::files::{list_bytes, read_list, shape_bytes, List};
 use plates_tests::long_mode;
-use plates_tests::plate::{twin, Shape};
-use plates_tests::random::{double_ring, list_of, plane_plate, shuffled_plate, Random};
+use plates_tests::plate::{twin, Plate, Shape};
+use plates_tests::random::{
+    any_plate, double_ring, list_of, looped_plate, looped_ring, plane_plate, shuffled_plate, Random,
+};
 
 /// How many random plates of each sort are compared.
 fn how_many(default: u64, long: u64) -> u64 {
@@ -53,27 +55,35 @@ fn compare_list(list: &[u8], random: &mut Random) -> u8 {
     number
 }
 
-#[test]
-fn plane_plates() {
+/// Compares the plates that `made` makes from the seeds after `first`.
+fn compare_plates(what: &str, first: u64, made: fn(usize, &mut Random) -> Plate) {
     let count = how_many(300, 20_000);
     let (mut most_posts, mut most_strips, mut most_bends) = (0, 0, 0);
-    for seed in 0..count {
+    for seed in first..first + count {
         let mut random = Random::new(seed);
         let most = if seed % 3 == 0 {
             64
         } else {
             2 + random.below(63)
         };
-        let plate = plane_plate(most, &mut random);
+        let plate = made(most, &mut random);
         let list = list_of(&plate, &mut random);
         assert_eq!(compare_list(&list, &mut random), 0, "seed {seed}");
         most_posts = most_posts.max(plate.posts);
         most_strips = most_strips.max(plate.strips.len());
         most_bends = most_bends.max(cancelling::best(&plate).bends());
     }
-    println!(
-        "{count} plane plates, up to {most_posts} posts, {most_strips} strips, {most_bends} bends"
-    );
+    println!("{count} {what}, up to {most_posts} posts, {most_strips} strips, {most_bends} bends");
+}
+
+#[test]
+fn plane_plates() {
+    compare_plates("plane plates", 0, plane_plate);
+}
+
+#[test]
+fn looped_plates() {
+    compare_plates("plates with strips to itself", 8_000_000, looped_plate);
 }
 
 #[test]
@@ -101,7 +111,7 @@ fn no_cycle_improves() {
     for seed in 0..count {
         let mut random = Random::new(6_000_000 + seed);
         let most = if seed % 10 == 0 { 64 } else { 12 };
-        let plate = plane_plate(most, &mut random);
+        let plate = any_plate(most, &mut random);
         let list = list_bytes(&plate, 1, None);
         let written = written_shape(&list, plate.darts());
         assert!(is_best(&plate, &written), "list {}", compare::hex(&list));
@@ -122,18 +132,20 @@ fn written_shape(list: &[u8], darts: usize) -> Shape {
     }
 }
 
-/// 64 posts with four strips each, from every outer dart in the long mode.
+/// Rings of up to 64 posts with four places taken at each, from every outer
+/// dart in the long mode.
 #[test]
 fn largest_plates() {
     let mut random = Random::new(64);
-    for posts in [2, 3, 32, 63, 64] {
-        let mut plate = double_ring(posts);
-        let step = if long_mode() { 1 } else { 61 };
-        for outer in (0..plate.darts()).step_by(step) {
-            plate.outer = outer;
-            let list = list_bytes(&plate, 0xffff, Some(&[0x5a; 80]));
-            assert!(list.len() <= 614);
-            assert_eq!(compare_list(&list, &mut random), 0);
+    for posts in [1, 2, 3, 32, 63, 64] {
+        for mut plate in [double_ring(posts), looped_ring(posts)] {
+            let step = if long_mode() { 1 } else { 61 };
+            for outer in (0..plate.darts()).step_by(step) {
+                plate.outer = outer;
+                let list = list_bytes(&plate, 0xffff, Some(&[0x5a; 80]));
+                assert!(list.len() <= 614);
+                assert_eq!(compare_list(&list, &mut random), 0);
+            }
         }
     }
 }

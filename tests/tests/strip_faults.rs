@@ -1,5 +1,5 @@
-//! Strip fields with several faults: 9, 10 and 11 win over each other in this
-//! sequence, wherever in the field they stand.
+//! Strip fields with several faults: 9 wins over 11, wherever in the field they
+//! stand, and a strip from a post to itself takes two of its places.
 
 use plates_tests::cancelling;
 use plates_tests::compare;
@@ -9,10 +9,10 @@ use plates_tests::plate::{by_number, Plate};
 use plates_tests::random::{plane_plate, Random};
 
 /// The numbers of the strip field, in their sequence.
-const NUMBERS: [u8; 3] = [9, 10, 11];
+const NUMBERS: [u8; 2] = [9, 11];
 
-/// At which strip each of 9, 10 and 11 is first met, if it is.
-fn first_met(plate: &Plate) -> [Option<usize>; 3] {
+/// At which strip each of 9 and 11 is first met, if it is.
+fn first_met(plate: &Plate) -> [Option<usize>; 2] {
     let strips = &plate.strips;
     let fifth = |place: usize| {
         let ends = || strips[..=place].iter().flatten();
@@ -22,17 +22,18 @@ fn first_met(plate: &Plate) -> [Option<usize>; 3] {
         strips
             .iter()
             .position(|ends| ends.iter().any(|&end| end >= plate.posts)),
-        strips.iter().position(|[a, b]| a == b),
         (0..strips.len()).find(|&place| fifth(place)),
     ]
 }
 
-/// How many fields gave each of 9, 10 and 11, and in how many of them each of
-/// the others had been met at an earlier strip.
+/// How many fields gave each of 9 and 11, how many gave 9 where 11 had been met
+/// at an earlier strip, and how many gave 11 only because a strip from a post to
+/// itself takes two places.
 #[derive(Debug, Default)]
 struct Met {
-    given: [usize; 3],
-    after: [[usize; 3]; 3],
+    given: [usize; 2],
+    behind: usize,
+    by_loops: usize,
 }
 
 impl Met {
@@ -46,23 +47,18 @@ impl Met {
         let Some(first) = first else { return };
         assert_eq!(number, NUMBERS[first]);
         self.given[first] += 1;
-        for other in 0..3 {
-            if places[other].is_some_and(|place| Some(place) < places[first]) {
-                self.after[first][other] += 1;
-            }
-        }
+        self.behind +=
+            usize::from(first == 0 && places[1].is_some_and(|place| Some(place) < places[0]));
+        let strips = |post| plate.strips.iter().filter(move |ends| ends.contains(&post));
+        let few = (0..plate.posts).all(|post| strips(post).count() <= 4);
+        self.by_loops += usize::from(first == 1 && few);
     }
 
-    /// Prints the counts; each number won over each later one met before it.
+    /// Prints the counts, of which none is zero.
     fn told(&self, what: &str) {
-        println!(
-            "{what}: 9, 10, 11 given {:?}; after others {:?}",
-            self.given, self.after
-        );
+        println!("{what}: {self:?}");
         assert!(self.given.iter().all(|&count| count > 0));
-        assert!([self.after[0][1], self.after[0][2], self.after[1][2]]
-            .iter()
-            .all(|&count| count > 0));
+        assert!(self.behind > 0 && self.by_loops > 0);
     }
 }
 
