@@ -38,8 +38,9 @@ enum plates_refusal {
     PLATES_POST_COUNT = 7,         /* no post, or over 64 */
     PLATES_NO_STRIPS = 8,          /* no strip */
     PLATES_END_NOT_A_POST = 9,     /* some strip's end is not a post */
-    /* 10 is no longer given: a strip may join a post to itself */
-    PLATES_OVER_FOUR_STRIPS = 11,  /* some post has over four of its places taken */
+    /* 10 is not given and stands for nothing: a strip may join a post to itself */
+    PLATES_OVER_FOUR_PLACES = 11,  /* some post has over four places taken, two by a
+                                      strip from the post to itself */
     PLATES_CLOCKWISE_ORDER = 12,   /* not exactly each post's leaving darts, each once */
     PLATES_OUTER_DART = 13,        /* outer dart is not a dart */
     PLATES_NOT_CONNECTED = 14,     /* not in one piece */

@@ -258,8 +258,9 @@ pub enum Refusal {
     NoStrips = 8,
     /// Some strip's end is not a post.
     EndNotAPost = 9,
-    /// Some post has over four of its places taken; 10 is no longer given.
-    OverFourStrips = 11,
+    /// Some post has over four places taken; a strip from the post to itself
+    /// takes two. 10 is not given and stands for nothing.
+    OverFourPlaces = 11,
     /// The clockwise order is not each post's leaving darts, each once.
     ClockwiseOrder = 12,
     /// The outer dart is not a dart of the plate.
@@ -296,7 +297,7 @@ impl Refusal {
         Refusal::PostCount,
         Refusal::NoStrips,
         Refusal::EndNotAPost,
-        Refusal::OverFourStrips,
+        Refusal::OverFourPlaces,
         Refusal::ClockwiseOrder,
         Refusal::OuterDart,
         Refusal::NotConnected,
@@ -310,12 +311,12 @@ impl Refusal {
         Refusal::TotalDiffers,
     ];
 
-    /// Its number, 1 to 22, but never 10.
+    /// Its number: 1 to 22, never 10.
     pub fn number(self) -> u8 {
         self as u8
     }
 
-    /// The refusal with this number; none for 0, for 10, which is no longer given, and for numbers over 22.
+    /// The refusal with this number; none for 0, 10 and numbers over 22.
     ///
     /// ```
     /// use plates::Refusal;
@@ -340,7 +341,7 @@ impl Refusal {
             Refusal::PostCount => "the plate must have 1 to 64 posts",
             Refusal::NoStrips => "the plate has no strips",
             Refusal::EndNotAPost => "a strip ends at a post that the plate does not have",
-            Refusal::OverFourStrips => "a post has more than four strip ends",
+            Refusal::OverFourPlaces => "a post has more than four places taken; a strip from a post to itself takes two",
             Refusal::ClockwiseOrder => {
                 "the clockwise order must list, post after post, each dart that leaves the post once"
             }
