@@ -57,7 +57,7 @@ pub record One-loop : Type 0 where
   pub inner : (after (plateOf loopList) 0 ≡ 0) × (faceOf (plateOf loopList) 0 ≡ 0 ∷ [])
   pub outer : (after (plateOf loopList) 1 ≡ 1) × (faceOf (plateOf loopList) 1 ≡ 1 ∷ [])
   pub best : Best (plateOf loopList) loopShape
-  -- what shaping answers and writes, whatever memory is lent
+  -- what shaping answers, and writes to any memory of 20 bytes or more
   pub written : (o o′ : List ℕ) (r : Shaped) → 20 ≤ length o → ShapeSays loopList o o′ r → (o′ ≡ over loopFile o) × (r ≡ shaped 0 20 3)
 
 pub record To-itself : Type 0 where

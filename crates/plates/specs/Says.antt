@@ -50,6 +50,7 @@ anglesIn t = contentOf 19 (walkAll true t .fields)
 abbrev pub rightsIn : List ℕ → List ℕ
 rightsIn t = contentOf 20 (walkAll true t .fields)
 
+-- of the shape file, behind the list's own
 abbrev pub fileFault : List ℕ → List ℕ → ℕ
 fileFault s t =
     let p = plateOf s in

@@ -126,20 +126,38 @@ fn posts_and_strips() {
     );
 }
 
-// Refusal 11: P10's fifth strip at a post, and a fourth; strips from a post to itself, which take two places.
+// Refusal 11: P10's fifth strip at a post, and a fourth.
 fn strips_at_a_post() {
-    show(
-        b"a strip to itself",
-        2,
-        b"\x00\x01\x01\x01",
-        b"\x00\x01\x02\x03",
-        0,
-    );
     show(
         b"five strips, then one to itself",
         2,
         b"\x00\x01\x00\x01\x00\x01\x00\x01\x00\x01\x01\x01",
         b"",
+        0,
+    );
+    show(
+        b"five strips",
+        2,
+        b"\x00\x01\x00\x01\x00\x01\x00\x01\x00\x01",
+        b"\x00\x02\x04\x06\x08\x09\x07\x05\x03\x01",
+        1,
+    );
+    show(
+        b"four strips",
+        2,
+        b"\x00\x01\x00\x01\x00\x01\x00\x01",
+        b"\x00\x02\x04\x06\x07\x05\x03\x01",
+        1,
+    );
+}
+
+// Strips from a post to itself: each takes two places, and each of its darts may be a face.
+fn strips_to_itself() {
+    show(
+        b"a strip to itself",
+        2,
+        b"\x00\x01\x01\x01",
+        b"\x00\x01\x02\x03",
         0,
     );
     show(b"one strip to itself", 1, b"\x00\x00", b"\x00\x01", 1);
@@ -162,20 +180,6 @@ fn strips_at_a_post() {
         2,
         b"\x00\x00\x00\x01\x00\x01\x00\x01",
         b"\x00\x01\x02\x04\x06\x07\x05\x03",
-        1,
-    );
-    show(
-        b"five strips",
-        2,
-        b"\x00\x01\x00\x01\x00\x01\x00\x01\x00\x01",
-        b"\x00\x02\x04\x06\x08\x09\x07\x05\x03\x01",
-        1,
-    );
-    show(
-        b"four strips",
-        2,
-        b"\x00\x01\x00\x01\x00\x01\x00\x01",
-        b"\x00\x02\x04\x06\x07\x05\x03\x01",
         1,
     );
 }
@@ -275,6 +279,7 @@ fn main() {
     more_plates_to_try();
     posts_and_strips();
     strips_at_a_post();
+    strips_to_itself();
     orders();
     stopped();
     whole_plates();
