@@ -1,5 +1,5 @@
 -- Strips from a post to itself, over lists. Where 10 was not given the numbers are the same, so the promises are, and they leave no choice. Assumes nothing.
-use mathlib.Core.Path.{_≡_, refl, sym, ap, subst, _∙_}
+use mathlib.Core.Path.{_≡_, refl, sym, ap, ap₂, subst, _∙_}
 use mathlib.Core.Bool.{Bool, true, false, _&&_, not}
 use mathlib.Core.List.{List, [], _∷_}
 use Prim.Native.Nat.{ℕ, zero, suc}
@@ -11,12 +11,15 @@ use Rattle.fields.proofs.Turns.{walk-few}
 use Rattle.embedding.proofs.Loops as Plates
 use Rattle.shapes.proofs.Accepted.{faultless, ordered}
 use Rattle.shapes.proofs.Tried.{loop-best}
+use Rattle.plates.specs.declared.Shaped.{Shaped}
 use Rattle.plates.specs.Plates.{firstOf, when, darts, faces, plateFault}
-use Rattle.plates.specs.Shapes.{anglesOk, postsOk, facesOk, total, shapeOf}
-use Rattle.plates.specs.Files.{walkAll, contentOf, listFault, plateOf}
-use Rattle.plates.specs.Says.{word, anglesIn, rightsIn, fileLong, shapeFault, fileFault, checkFault, ShapeWith, CheckWith}
+use Rattle.plates.specs.Shapes.{rightsOf, anglesOk, postsOk, facesOk, total, shapeOf}
+use Rattle.plates.specs.Files.{walkAll, contentOf, listFault, plateOf, shapeBytes}
+use Rattle.plates.specs.Claims.{Best}
+use Rattle.plates.specs.Says.{over, word, anglesIn, rightsIn, fileLong, shapeFault, fileFault, checkFault, ShapeWith, CheckWith}
 use Rattle.plates.specs.Listing.{ListingWith}
-use Rattle.plates.specs.Loops.{plateFaultBefore, listFaultBefore, AsBefore, Kept, loopList, One-loop, To-itself}
+use Rattle.plates.specs.Answers.{shaped}
+use Rattle.plates.specs.Loops.{plateFaultBefore, listFaultBefore, shapeFaultBefore, AsBefore, Kept, loopList, One-loop, To-itself}
 use Rattle.plates.proofs.Lists.{list-accepted, list-demands}
 use Rattle.plates.proofs.OneAnswer.{shape-only, written-only, check-only, listing-only}
 
@@ -40,6 +43,21 @@ as-before s n =
       listed = λ o o₁ o₂ r q b a. listing-only s o o₁ o₂ r q (subst (λ (f : ℕ). ListingWith f s o o₁ r) (sym e) b) a;
     }
 
+-- for memory that is long enough the best shape, for other memory 16
+module _ (s : List ℕ) (z : listFaultBefore s ≡ 0) (a x : List ℕ) (best : Best (plateOf s) (shapeOf (plateOf s) a x)) (counts : rightsOf (shapeOf (plateOf s) a x .words) ≡ x) (o : List ℕ) where
+  abbrev Answer : ℕ → Type 0
+  Answer f = (o′ : List ℕ) × (r : Shaped) × ShapeWith f s o o′ r
+
+  abbrev b : List ℕ
+  b = shapeBytes (walkAll false s .fields) (shapeOf (plateOf s) a x)
+
+  some-answer : Answer (shapeFaultBefore s o)
+  some-answer = go (ltb (length o) (fileLong s)) refl
+    where
+      go : (t : Bool) → ltb (length o) (fileLong s) ≡ t → Answer (shapeFaultBefore s o)
+      go true e = subst Answer (sym (ap₂ (λ (n : ℕ) (t : Bool). firstOf n (when t 16)) z e)) (o, shaped 16 0 0, (refl, refl, refl, refl))
+      go false e = subst Answer (sym (ap₂ (λ (n : ℕ) (t : Bool). firstOf n (when t 16)) z e)) (over b o, shaped 0 (length b) (total x), (refl, (a, x, best, counts, (refl, refl, refl))))
+
 kept : (s : List ℕ) → listFaultBefore s ≡ 0 → Kept s
 kept s z =
     let other : listFaultBefore s ≡ 10 → ⊥ = λ t. omega arith in
@@ -48,6 +66,7 @@ kept s z =
     record {
       accepted = e;
       one-best = (a, r, best, counts, λ u b. list-demands .third .one-best s u (shapeOf (plateOf s) a r) e b best);
+      some-answer = some-answer s z a r best counts;
       answers = as-before s other;
     }
 

@@ -11,3 +11,4 @@ pub mod Checks
 pub mod Listing
 pub mod Answers
 pub mod Loops
+pub mod Tried

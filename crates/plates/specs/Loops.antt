@@ -38,6 +38,8 @@ pub record AsBefore (s : List ℕ) : Type 0 where
 pub record Kept (s : List ℕ) : Type 0 where
   pub accepted : listFault s ≡ 0
   pub one-best : BestBytes s (λ a r b. (u : Shape) → Best (plateOf s) u → u ≡ shapeOf (plateOf s) a r)
+  -- any lent memory had an answer, and it is the one given
+  pub some-answer : (o : List ℕ) → (o′ : List ℕ) × (r : Shaped) × ShapeWith (shapeFaultBefore s o) s o o′ r
   pub answers : AsBefore s
 
 -- one post, one strip, order (0, 1), outer dart 1, revision 7; its shape: three bends, all on dart 0, angles 1 and 3
