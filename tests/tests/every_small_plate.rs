@@ -130,7 +130,7 @@ fn compare_all(strips: usize, best: Solver) {
         compare_plate(plate, best, &mut counts)
     });
     println!("{strips} strips: {counts:?}");
-    assert!(counts.accepted > 0);
+    assert!(counts.accepted > counts.with_loop && counts.with_loop > 0);
 }
 
 #[test]
