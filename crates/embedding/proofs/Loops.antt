@@ -18,9 +18,9 @@ use Rattle.embedding.proofs.Rotation.{Ordered, twin-dart, twin-differs,
 pub counted-twice : (v : ℕ) (es : List ℕ) → degreeFrom v (v ∷ (v ∷ es)) ≡ 2 + degreeFrom v es
 counted-twice v es = rw (eq-eqb v v refl) (omega arith)
 
-module _ (p : Plate) (f : Faultless p) (o : Ordered p) (d : ℕ) (l : d < darts p) where
-  pub two-places : endsAt p d ≡ leaves p d → TwoPlaces p d
-  two-places e =
+module _ (p : Plate) (o : Ordered p) (d : ℕ) (l : d < darts p) where
+  pub two-places : Faultless p → endsAt p d ≡ leaves p d → TwoPlaces p d
+  two-places f e =
       record {
         own = own-part p o d l;
         twins = subst (λ (v : ℕ). isIn (twin d) (partOf p v) ≡ true) e (own-part p o (twin d) (twin-dart p o d l));

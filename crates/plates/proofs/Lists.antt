@@ -1,13 +1,13 @@
 -- The plate of an accepted list is accepted, and the strips of a walked list are whole, so what is proved of plates holds of lists. Assumes nothing.
-use mathlib.Core.Path.{_≡_, refl, sym, ap, subst}
+use mathlib.Core.Path.{_≡_}
 use mathlib.Core.Bool.{false}
 use mathlib.Core.List.{List}
-use Prim.Native.Nat.{ℕ, zero, suc}
-use Rattle.finite.proofs.Tests.{first-none}
+use Prim.Native.Nat.{ℕ}
+use Rattle.finite.proofs.Tests.{first-none, first-same}
 use Rattle.embedding.proofs.OnePass.{stopped-after, answered-after, pass-fault}
 use Rattle.shapes.specs.Claims.{Accepted}
 use Rattle.shapes.proofs.Demands as Plates
-use Rattle.plates.specs.Plates.{firstOf, plateFault}
+use Rattle.plates.specs.Plates.{plateFault}
 use Rattle.plates.specs.Files.{walkAll, listFault, plateOf}
 use Rattle.plates.specs.Pass.{passFault, listPass, One-pass}
 use Rattle.plates.specs.Claims.{Demands}
@@ -34,11 +34,7 @@ list-demands = record {
 
 -- a list that is refused in its walk has that number either way
 list-pass : (k : ℕ) (s : List ℕ) → listPass k s ≡ listFault s
-list-pass k s = go (walkAll false s .number) refl
-  where
-    go : (e : ℕ) → walkAll false s .number ≡ e → listPass k s ≡ listFault s
-    go zero q = ap (firstOf (walkAll false s .number)) (pass-fault k (plateOf s) (list-fields s q .ends-even))
-    go (suc e) q = subst (λ (n : ℕ). firstOf n (passFault k (plateOf s)) ≡ firstOf n (plateFault (plateOf s))) (sym q) refl
+list-pass k s = first-same (walkAll false s .number) (passFault k (plateOf s)) (plateFault (plateOf s)) (λ q. pass-fault k (plateOf s) (list-fields s q .ends-even))
 
 pub one-pass : One-pass
 one-pass =

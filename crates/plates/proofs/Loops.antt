@@ -1,12 +1,12 @@
 -- Strips from a post to itself, over lists. Where 10 was not given the numbers are the same, so the promises are, and they leave no choice. Assumes nothing.
-use mathlib.Core.Path.{_≡_, refl, sym, ap, ap₂, subst, _∙_}
+use mathlib.Core.Path.{_≡_, refl, sym, ap, subst, _∙_}
 use mathlib.Core.Bool.{Bool, true, false, _&&_, not}
 use mathlib.Core.List.{List, [], _∷_}
-use Prim.Native.Nat.{ℕ, zero, suc}
+use Prim.Native.Nat.{ℕ}
 use native.Mathlib.Omega.{arith}
 use lib.Dec.{eqb, ltb}
 use lib.ListN.{length}
-use Rattle.finite.proofs.Tests.{first-some, first-of, when-of, fault-of}
+use Rattle.finite.proofs.Tests.{first-same, first-of, when-of, fault-of}
 use Rattle.fields.proofs.Turns.{walk-few}
 use Rattle.embedding.proofs.Loops as Plates
 use Rattle.shapes.proofs.Accepted.{faultless, ordered}
@@ -25,13 +25,9 @@ use Rattle.plates.proofs.OneAnswer.{shape-only, written-only, check-onl
 
 -- a list that is refused in its walk has that number either way
 same-number : (s : List ℕ) → (listFaultBefore s ≡ 10 → ⊥) → listFault s ≡ listFaultBefore s
-same-number s n = go (walkAll false s .number) refl
-  where
-    go : (e : ℕ) → walkAll false s .number ≡ e → listFault s ≡ listFaultBefore s
-    go zero q = ap (firstOf (walkAll false s .number)) (Plates.same-fault (plateOf s) (λ t. n (ap (λ (k : ℕ). firstOf k (plateFaultBefore (plateOf s))) q ∙ t)))
-    go (suc e) q =
-        let some : walkAll false s .number ≡ 0 → ⊥ = λ z. omega arith in
-        first-some (walkAll false s .number) (plateFault (plateOf s)) some ∙ sym (first-some (walkAll false s .number) (plateFaultBefore (plateOf s)) some)
+same-number s n =
+    let p = plateOf s in
+    first-same (walkAll false s .number) (plateFault p) (plateFaultBefore p) (λ q. Plates.same-fault p (λ t. n (ap (λ (k : ℕ). firstOf k (plateFaultBefore p)) q ∙ t)))
 
 as-before : (s : List ℕ) → (listFaultBefore s ≡ 10 → ⊥) → AsBefore s
 as-before s n =
@@ -52,11 +48,11 @@ module _ (s : List ℕ) (z : listFaultBefore s ≡ 0) (a x : List ℕ) (best : B
   b = shapeBytes (walkAll false s .fields) (shapeOf (plateOf s) a x)
 
   some-answer : Answer (shapeFaultBefore s o)
-  some-answer = go (ltb (length o) (fileLong s)) refl
+  some-answer = subst (λ (n : ℕ). Answer (firstOf n (when (ltb (length o) (fileLong s)) 16))) (sym z) (by (ltb (length o) (fileLong s)))
     where
-      go : (t : Bool) → ltb (length o) (fileLong s) ≡ t → Answer (shapeFaultBefore s o)
-      go true e = subst Answer (sym (ap₂ (λ (n : ℕ) (t : Bool). firstOf n (when t 16)) z e)) (o, shaped 16 0 0, (refl, refl, refl, refl))
-      go false e = subst Answer (sym (ap₂ (λ (n : ℕ) (t : Bool). firstOf n (when t 16)) z e)) (over b o, shaped 0 (length b) (total x), (refl, (a, x, best, counts, (refl, refl, refl))))
+      by : (short : Bool) → Answer (when short 16)
+      by true = (o, shaped 16 0 0, (refl, refl, refl, refl))
+      by false = (over b o, shaped 0 (length b) (total x), (refl, (a, x, best, counts, (refl, refl, refl))))
 
 kept : (s : List ℕ) → listFaultBefore s ≡ 0 → Kept s
 kept s z =
@@ -111,9 +107,9 @@ one-loop = record { before = refl; accepted = refl; inner = (refl, refl); outer 
 pub to-itself : To-itself
 to-itself =
     record {
-      two-places = λ s d e l q. let a = list-accepted s e in Plates.two-places (plateOf s) (faultless (plateOf s) a) (ordered (plateOf s) a) d l q;
+      two-places = λ s d e l q. let a = list-accepted s e in Plates.two-places (plateOf s) (ordered (plateOf s) a) d l (faultless (plateOf s) a) q;
       counted-twice = Plates.counted-twice;
-      straight-back = λ s d e l q. let a = list-accepted s e in Plates.straight-back (plateOf s) (faultless (plateOf s) a) (ordered (plateOf s) a) d l q;
+      straight-back = λ s d e l q. Plates.straight-back (plateOf s) (ordered (plateOf s) (list-accepted s e)) d l q;
       one-loop = one-loop;
       never-ten = λ s o t. (list-never s, shape-never s o, check-never s t);
       as-before = as-before;
