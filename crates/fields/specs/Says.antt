@@ -5,7 +5,7 @@ use mathlib.Core.List.{List, [], _∷_}
 use Prim.Native.Nat.{ℕ, _+_, _*_, _≤_, _<_}
 use lib.Dec.{eqb}
 use lib.ListN.{length, getD, take, drop, replicate}
-use Rattle.finite.specs.Base.{pick}
+use Rattle.finite.specs.Base.{pick, wordAt}
 use Rattle.fields.specs.Files.{Field, Walk, hasTag, contentOf, walkAll}
 use Rattle.fields.specs.Rules.{tagAt}
 use Rattle.fields.specs.declared.Fields.{Fields}
@@ -44,4 +44,4 @@ bytesOf s f i = take (getD (f .long) i 0) (drop (getD (f .at) i 0) s)
 
 -- the first two bytes as a number, high byte first
 abbrev pub word : List ℕ → ℕ
-word c = 256 * getD c 0 0 + getD c 1 0
+word c = wordAt c 0

@@ -1,8 +1,9 @@
--- Choices by a test; tests, sums and an order of lists of numbers.
+-- Choices by a test; tests, sums and an order of lists of numbers; two bytes as a number.
 use mathlib.Core.Bool.{Bool, true, false, _&&_, _||_, not}
 use mathlib.Core.List.{List, [], _∷_}
-use Prim.Native.Nat.{ℕ, zero, suc, _+_}
+use Prim.Native.Nat.{ℕ, zero, suc, _+_, _*_}
 use lib.Dec.{eqb, ltb, leb}
+use lib.ListN.{getD}
 
 abbrev pub pick : {A : Type 0} → Bool → A → A → A
 pick true a b = a
@@ -51,3 +52,7 @@ abbrev pub smaller : List ℕ → List ℕ → Bool
 smaller [] ys = false
 smaller (x ∷ xs) [] = false
 smaller (x ∷ xs) (y ∷ ys) = ltb x y || (eqb x y && smaller xs ys)
+
+-- the two bytes from a place on as a number, high byte first
+abbrev pub wordAt : List ℕ → ℕ → ℕ
+wordAt s at = 256 * getD s at 0 + getD s (at + 1) 0
