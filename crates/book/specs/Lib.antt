@@ -1,0 +1,3 @@
+-- What the contracts of `book` cite.
+pub mod Entries
+pub mod Says

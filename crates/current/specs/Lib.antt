@@ -1,0 +1,2 @@
+-- What the contracts of `current` cite.
+pub mod Numbers
