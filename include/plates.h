@@ -1,4 +1,5 @@
-/* Strip plates: from a plate list to the shape with fewest bends.
+/* Strip plates: from a plate list to the shape with fewest bends; and from a
+ * book of entries to the current revision of a model.
  *
  * Link with libplates.a (x86-64 Linux); it needs the C library only.
  *
@@ -22,7 +23,8 @@ extern "C" {
 #endif
 
 /* Refusals, in the order in which they are tried. "File" is the plate list
- * or, for plates_check_shape, the plate list first and then the shape. */
+ * or, for plates_check_shape, the plate list first and then the shape. 40 to
+ * 42 are plates_current_revision's alone. */
 enum plates_refusal {
     PLATES_ACCEPTED = 0,
 
@@ -55,7 +57,13 @@ enum plates_refusal {
     PLATES_ANGLE_RANGE = 19,       /* an angle outside 1 to 4 */
     PLATES_ANGLES_AT_POST = 20,    /* angles at some post do not add to 4 */
     PLATES_TURNS_OF_FACE = 21,     /* turns of some face do not add to +4, outer -4 */
-    PLATES_TOTAL_DIFFERS = 22      /* total is not the sum of the right bends */
+    PLATES_TOTAL_DIFFERS = 22,     /* total is not the sum of the right bends */
+
+    /* book of entries: all three at one entry before the next entry */
+    PLATES_ENTRY_CUT = 40,         /* the last entry has under six bytes */
+    PLATES_REVISION_LISTED = 41,   /* revision 0, or already listed for the model */
+    PLATES_NOT_CURRENT = 42        /* the revision replaced is not the model's current one
+                                      or, for a new model, not 0 */
 };
 
 /* Writes the best shape of a plate list to the front of `out`.
@@ -98,6 +106,19 @@ uint8_t plates_check_shape(const uint8_t *list, size_t list_len,
  * *long_ is 0. No other number is returned. */
 uint8_t plates_write_listing(const uint8_t *list, size_t list_len,
                              uint8_t *out, size_t out_len, size_t *long_);
+
+/* Gives the current revision of a model from a book of entries. An entry is a
+ * model, a revision and the revision replaced, two bytes each, high byte
+ * first; the revision replaced is 0 for a model's first entry.
+ *
+ * 0: every entry of the book is accepted. *revision is the one revision listed
+ * for the model that no entry of the model replaces, or 0 where the model is
+ * not in the book; no listed revision is 0.
+ *
+ * 40, 41, 42: the book is refused, at its first bad entry from the front,
+ * whichever model that is of; *revision is 0. No other number is returned. */
+uint8_t plates_current_revision(const uint8_t *book, size_t book_len,
+                                uint16_t model, uint16_t *revision);
 
 #ifdef __cplusplus
 }

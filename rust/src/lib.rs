@@ -1,10 +1,11 @@
 //! Strip plates: from a plate list to the shape with fewest bends.
 //!
-//! A safe wrapper round the three functions of the verified library. A plate
+//! A safe wrapper round the four functions of the verified library. A plate
 //! list is bytes in fields: one-byte tag, two-byte length (high byte first),
 //! content. [`write_shape`] writes the best shape of a plate list,
 //! [`check_shape`] gives a verdict on a shape file, and [`write_listing`]
-//! writes the best shape as text.
+//! writes the best shape as text. [`current_revision`] finds the current
+//! revision of a model in a book of entries.
 //!
 //! ```
 //! // Two posts joined by two strips.
@@ -198,11 +199,45 @@ pub fn write_listing(list: &[u8], out: &mut [u8]) -> Result<usize, Refusal> {
     accepted(number).map(|()| length)
 }
 
+/// Gives the current revision of a model from a book of entries, or none where
+/// the model is not in the book.
+///
+/// An entry is a model, a revision and the revision replaced, two bytes each,
+/// high byte first; the revision replaced is 0 for a model's first entry. The
+/// current revision is the one that no entry of the model replaces.
+///
+/// # Errors
+/// [`Refusal::EntryCut`], [`Refusal::RevisionListed`] and
+/// [`Refusal::NotCurrent`], at the first bad entry from the front, whichever
+/// model that is of.
+///
+/// ```
+/// use plates::{current_revision, Refusal};
+///
+/// let book = [
+///     0, 7, 0, 1, 0, 0, // model 7, revision 1, its first
+///     0, 9, 1, 0, 0, 0, // model 9, revision 256, its first
+///     0, 7, 0, 5, 0, 1, // model 7, revision 5 in place of 1
+/// ];
+/// assert_eq!(current_revision(&book, 7), Ok(Some(5)));
+/// assert_eq!(current_revision(&book, 9), Ok(Some(256)));
+/// assert_eq!(current_revision(&book, 8), Ok(None));
+/// assert_eq!(current_revision(&book[..17], 9), Err(Refusal::EntryCut));
+/// ```
+pub fn current_revision(book: &[u8], model: u16) -> Result<Option<u16>, Refusal> {
+    let mut revision = 0;
+    // SAFETY: the pointer comes from a slice, with the slice's own length, and
+    // the revision overlaps nothing.
+    let number =
+        unsafe { calls::plates_current_revision(book.as_ptr(), book.len(), model, &mut revision) };
+    accepted(number).map(|()| (revision != 0).then_some(revision))
+}
+
 /// The library returns 0 or a refusal's number, and no other.
 fn accepted(number: u8) -> Result<(), Refusal> {
     match number {
         0 => Ok(()),
-        _ => Err(Refusal::from_number(number).expect("the library returns 0 to 22")),
+        _ => Err(Refusal::from_number(number).expect("the library returns a refusal's number")),
     }
 }
 
@@ -233,10 +268,16 @@ mod calls {
             out_len: usize,
             long: &mut usize,
         ) -> u8;
+        pub fn plates_current_revision(
+            book: *const u8,
+            book_len: usize,
+            model: u16,
+            revision: &mut u16,
+        ) -> u8;
     }
 }
 
-/// Why a plate list, a shape file or lent memory was refused.
+/// Why a plate list, a shape file, lent memory or a book was refused.
 #[derive(Clone, Copy, Debug, PartialEq, Eq, Hash)]
 #[repr(u8)]
 pub enum Refusal {
@@ -283,11 +324,18 @@ pub enum Refusal {
     TurnsOfFace = 21,
     /// The total differs from the sum of the right bends.
     TotalDiffers = 22,
+    /// The last entry of a book has under six bytes.
+    EntryCut = 40,
+    /// An entry's revision is 0, or already listed for its model.
+    RevisionListed = 41,
+    /// The revision that an entry replaces is not its model's current one or,
+    /// for a new model, not 0.
+    NotCurrent = 42,
 }
 
 impl Refusal {
     /// Every refusal, by rising number.
-    pub const ALL: [Refusal; 21] = [
+    pub const ALL: [Refusal; 24] = [
         Refusal::FieldCut,
         Refusal::UnknownTag,
         Refusal::RepeatedTag,
@@ -309,14 +357,18 @@ impl Refusal {
         Refusal::AnglesAtPost,
         Refusal::TurnsOfFace,
         Refusal::TotalDiffers,
+        Refusal::EntryCut,
+        Refusal::RevisionListed,
+        Refusal::NotCurrent,
     ];
 
-    /// Its number: 1 to 22, never 10.
+    /// Its number: 1 to 22, never 10, or 40 to 42.
     pub fn number(self) -> u8 {
         self as u8
     }
 
-    /// The refusal with this number; none for 0, 10 and numbers over 22.
+    /// The refusal with this number; none for 0, 10 and other numbers that
+    /// stand for nothing.
     ///
     /// ```
     /// use plates::Refusal;
@@ -355,6 +407,9 @@ impl Refusal {
             Refusal::AnglesAtPost => "the angles round a post do not add to a full turn",
             Refusal::TurnsOfFace => "the boundary of a face does not close",
             Refusal::TotalDiffers => "the total given is not the number of bends in the shape",
+            Refusal::EntryCut => "the book ends in the middle of an entry",
+            Refusal::RevisionListed => "an entry's revision is 0 or already listed for its model",
+            Refusal::NotCurrent => "an entry replaces a revision that is not its model's current one",
         }
     }
 }
@@ -375,7 +430,7 @@ mod tests {
     fn numbers_and_refusals_agree() {
         for number in 0..=255 {
             let refusal = Refusal::from_number(number);
-            let given = number <= 22 && number != 10;
+            let given = matches!(number, 0..=9 | 11..=22 | 40..=42);
             assert_eq!(refusal.map_or(0, Refusal::number) == number, given);
         }
     }

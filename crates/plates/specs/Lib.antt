@@ -12,3 +12,4 @@ pub mod Listing
 pub mod Answers
 pub mod Loops
 pub mod Tried
+pub mod Books

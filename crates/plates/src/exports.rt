@@ -2,9 +2,12 @@
 ghost use Rattle.plates.specs.Says.{ShapeSays, CheckSays};
 ghost use Rattle.plates.specs.Listing.{ListingSays};
 ghost use Rattle.plates.specs.Answers.{shaped, verdict, listed};
+ghost use Rattle.plates.specs.Books.{RevisionIs};
 use crate::check_shape;
 use crate::write_listing;
 use crate::write_shape;
+use book::Answer;
+use book::current_revision;
 
 // Shaping: the refusal's number, or 0 with the shape at the front of `out`, its length and its bends.
 #[no_mangle]
@@ -48,4 +51,26 @@ pub extern "C" fn plates_write_listing(list: &[u8], out: &mut [u8], long: &mut u
     let l = write_listing(list, out);
     *long = l.long;
     l.number
+}
+
+// Books: the refusal's number, or 0 with the current revision of the model, 0 where the model is not there.
+#[no_mangle]
+pub extern "C" fn plates_current_revision(book: &[u8], model: u16, revision: &mut u16) -> u8
+    ensures { λ r. ⌜ RevisionIs (now (book .entry)) model r (now (revision .exit)) ⌝ }
+{
+    let answer = current_revision(book, model);
+    match answer {
+        Answer::Refused(number) => {
+            *revision = 0;
+            number
+        }
+        Answer::Absent => {
+            *revision = 0;
+            0
+        }
+        Answer::Current(r) => {
+            *revision = r;
+            0
+        }
+    }
 }
