@@ -1,5 +1,6 @@
 //! Parts of the benchmark.
 //!
+//! - [`books`]: books of entries, compared and measured.
 //! - [`plates`]: the plates, always the same ones.
 //! - [`network`]: the flow network of a plate, for LEMON.
 //! - [`lemon`]: calls of LEMON, where it is installed.
@@ -7,6 +8,7 @@
 //! - [`rows`]: what is called and compared for each plate.
 //! - [`table`]: the tables that are printed.
 
+pub mod books;
 #[cfg(lemon)]
 pub mod lemon;
 #[cfg(not(lemon))]

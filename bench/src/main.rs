@@ -2,7 +2,7 @@
 
 use plates_bench::measure::Effort;
 use plates_bench::rows::rows;
-use plates_bench::{lemon, plates, table};
+use plates_bench::{books, lemon, plates, table};
 use std::process::ExitCode;
 
 fn main() -> ExitCode {
@@ -33,6 +33,11 @@ fn main() -> ExitCode {
     println!(
         "Growth of write with the posts:\n\n{}",
         table::growth(&rows)
+    );
+    let rows = books::rows(effort.books, &effort);
+    println!(
+        "current_revision on books of entries:\n\n{}",
+        table::books(&rows)
     );
     ExitCode::SUCCESS
 }

@@ -5,10 +5,12 @@ use std::time::{Duration, Instant};
 /// A call to be measured.
 pub type Call<'a> = Box<dyn FnMut() + 'a>;
 
-/// How many batches of calls there are, and how long each takes at least.
+/// How many batches of calls there are, how long each takes at least, and how
+/// many entries the books have.
 pub struct Effort {
     pub batches: usize,
     pub batch: Duration,
+    pub books: &'static [usize],
 }
 
 impl Effort {
@@ -16,6 +18,7 @@ impl Effort {
         Effort {
             batches: 11,
             batch: Duration::from_millis(20),
+            books: &[100, 1000, 10000],
         }
     }
 
@@ -23,6 +26,7 @@ impl Effort {
         Effort {
             batches: 3,
             batch: Duration::from_millis(3),
+            books: &[100, 1000],
         }
     }
 }

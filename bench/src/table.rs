@@ -1,5 +1,6 @@
 //! The tables that are printed, in Markdown.
 
+use crate::books::BookRow;
 use crate::plates::FAMILIES;
 use crate::rows::{LemonTimes, Row};
 
@@ -73,6 +74,18 @@ pub fn growth(rows: &[Row]) -> String {
         let numbers = writes.iter().copied().chain(ratios).map(short);
         cells.push([family.to_string()].into_iter().chain(numbers).collect());
     }
+    lines(head.map(String::from).to_vec(), cells)
+}
+
+/// The times of all books.
+pub fn books(rows: &[BookRow]) -> String {
+    let head = ["book", "entries", "current", "independent"];
+    let cells_of = |row: &BookRow| {
+        let times = [row.current, row.independent].map(short);
+        let names = [row.kind.to_string(), row.entries.to_string()];
+        names.into_iter().chain(times).collect()
+    };
+    let cells = rows.iter().map(cells_of).collect();
     lines(head.map(String::from).to_vec(), cells)
 }
 

@@ -1,6 +1,7 @@
 //! An independent implementation of document 01, for comparison with the
 //! verified library. It shares no code and no algorithm with it.
 //!
+//! - [`book`]: books of entries by sets of revisions.
 //! - [`files`]: fields, refusals, shape files, verdicts, listings.
 //! - [`plate`]: darts, rotation, faces, the conditions H3 and H4.
 //! - [`search`]: the best shape of a small plate by trying every shape.
@@ -14,6 +15,7 @@
 //! PLATES_LONG=1 it runs the long mode, in minutes. `-- --nocapture` prints
 //! how many cases each test compared.
 
+pub mod book;
 pub mod cancelling;
 pub mod certificate;
 pub mod compare;

@@ -38,23 +38,23 @@ fn archive_folder(root: &Path) -> PathBuf {
     }
 }
 
-/// What P1's C program prints. `cc` is there: cargo links with it.
-fn printed_by_c() -> String {
+/// What a C program of `tests/c` prints. `cc` is there: cargo links with it.
+fn printed_by_c(name: &str) -> String {
     let package = Path::new(env!("CARGO_MANIFEST_DIR"));
     let root = package.parent().expect("the package stands in a folder");
-    let program = Path::new(env!("CARGO_TARGET_TMPDIR")).join("p1");
+    let program = Path::new(env!("CARGO_TARGET_TMPDIR")).join(name);
     let compiled = Command::new("cc")
         .args(["-std=c99", "-Wall", "-Wextra", "-Werror", "-I"])
         .arg(root.join("include"))
-        .arg(package.join("c").join("p1.c"))
+        .arg(package.join("c").join(name).with_extension("c"))
         .arg(archive_folder(root).join("libplates.a"))
         .arg("-o")
         .arg(&program)
         .status();
     assert!(compiled.expect("cc is installed").success());
-    let ran = Command::new(&program).output().expect("p1 was compiled");
+    let ran = Command::new(&program).output().expect("it was compiled");
     assert!(ran.status.success());
-    String::from_utf8(ran.stdout).expect("p1 prints text")
+    String::from_utf8(ran.stdout).expect("it prints text")
 }
 
 /// The expected lines are document 01's of P1; a list without its last byte is
@@ -68,5 +68,16 @@ fn c_program_gets_the_answers() {
         revision 7\nbends 2\n\
         dart 0 right 0 angle 1\ndart 1 right 0 angle 3\n\
         dart 2 right 0 angle 3\ndart 3 right 2 angle 1\n";
-    assert_eq!(printed_by_c(), expected);
+    assert_eq!(printed_by_c("p1"), expected);
+}
+
+/// Model 7 has revisions 1 and 5, model 9 has 256, and model 8 is not there;
+/// without its last byte the book is refused with 40.
+#[test]
+fn c_program_gets_the_revisions() {
+    let expected = "model 7: 0 revision 5\n\
+        model 9: 0 revision 256\n\
+        model 8: 0 revision 0\n\
+        model 9: 40 revision 0\n";
+    assert_eq!(printed_by_c("book"), expected);
 }
