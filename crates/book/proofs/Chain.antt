@@ -132,5 +132,5 @@ module _ (m : ℕ) where
           let other : listedOf m (e ∷ es) ≡ listedOf m es = of-other (λ x. x .revision) m e es p in
           subst (λ (xs : List ℕ). r ≤ getD xs 0 0) (sym other) (ih (subst (λ (xs : List ℕ). isIn r xs ≡ true) other i))
 
-  pub rising-new : (es : List Entry) → entriesFault es ≡ 0 → isRising es ≡ true → (r : ℕ) → latest m es < r → isIn r (listedOf m es) ≡ false
-  rising-new es h u r l = not-true-false (isIn r (listedOf m es)) (λ i. omega (arith, rising-most es h u r i, l))
+  pub rising-unlisted : (es : List Entry) → entriesFault es ≡ 0 → isRising es ≡ true → (r : ℕ) → latest m es < r → isIn r (listedOf m es) ≡ false
+  rising-unlisted es h u r l = not-true-false (isIn r (listedOf m es)) (λ i. omega (arith, rising-most es h u r i, l))

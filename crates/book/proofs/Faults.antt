@@ -14,15 +14,15 @@ use Rattle.finite.specs.Base.{firstOf, when, isIn, wordAt}
 use Rattle.finite.proofs.Tests.{and-left, and-right, equal-or-not, first-none, first-some}
 use Rattle.book.specs.Entries.{entryAt, entries, listedOf, entryFault, entriesFault, whole, entriesOf, bookFault, latest, isRising, LastRoom}
 use Rattle.book.specs.Says.{FirstBad, LastCut}
-use Rattle.book.proofs.Chain.{is-latest, rising-new}
+use Rattle.book.proofs.Chain.{is-latest, rising-unlisted}
 
 module _ (s : List ℕ) where
   -- where revisions rise, one above the latest is not listed
-  pub above-new : (n m r last : ℕ) (rising : Bool) → LastRoom s n m last rising → (rising && ltb last r) ≡ true → false ≡ isIn r (listedOf m (entries s n))
-  above-new n m r last rising h a =
+  pub above-unlisted : (n m r last : ℕ) (rising : Bool) → LastRoom s n m last rising → (rising && ltb last r) ≡ true → false ≡ isIn r (listedOf m (entries s n))
+  above-unlisted n m r last rising h a =
       let u : isRising (entries s n) ≡ true = sym (h .rises) ∙ and-left rising (ltb last r) a in
       let l : last < r = ltb-true last r (and-right rising (ltb last r) a) in
-      sym (rising-new m (entries s n) (h .before) u r (omega (arith, h .latest-is, l)))
+      sym (rising-unlisted m (entries s n) (h .before) u r (omega (arith, h .latest-is, l)))
 
   -- one entry more: whether revisions still rise
   pub rising-on : (i : ℕ) (rising : Bool) → rising ≡ isRising (entries s i) → (rising && ltb (wordAt s (6 * i + 4)) (wordAt s (6 * i + 2))) ≡ isRising (entries s (i + 1))

@@ -1,6 +1,6 @@
 -- `book::is_repeated` saves the search where revisions rise and this one is above the last. Assumes nothing.
 use mathlib.Core.Path.{sym, _∙_}
-use Rattle.book.proofs.Faults.{above-new}
+use Rattle.book.proofs.Faults.{above-unlisted}
 use borrow.Author.Needs.{needs}
 use Rattle.book.proofs.is_repeated.Statement.{statement}
 use Rattle.book.proofs.is_repeated.Tie as tie
@@ -9,7 +9,7 @@ is-above-requires : tie.Need-is-above-requires
 is-above-requires c κs = search needs
 
 returns : tie.Need-returns
-returns c = above-new (c .before .before .before .args .book .now) (c .before .before .before .args .n) (c .before .before .before .args .model) (c .before .before .before .args .revision) (c .before .before .before .args .last) (c .before .before .before .args .rising) (c .before .before .before .pre) (sym (c .before .is-above .ensures) ∙ c .if1 .taken)
+returns c = above-unlisted (c .before .before .before .args .book .now) (c .before .before .before .args .n) (c .before .before .before .args .model) (c .before .before .before .args .revision) (c .before .before .before .args .last) (c .before .before .before .args .rising) (c .before .before .before .pre) (sym (c .before .is-above .ensures) ∙ c .if1 .taken)
 
 is-listed-requires : tie.Need-is-listed-requires
 is-listed-requires c κs = search needs
