@@ -409,7 +409,9 @@ impl Refusal {
             Refusal::TotalDiffers => "the total given is not the number of bends in the shape",
             Refusal::EntryCut => "the book ends in the middle of an entry",
             Refusal::RevisionListed => "an entry's revision is 0 or already listed for its model",
-            Refusal::NotCurrent => "an entry replaces a revision that is not its model's current one",
+            Refusal::NotCurrent => {
+                "an entry replaces a revision that is not its model's current one or, for a new model, not 0"
+            }
         }
     }
 }

@@ -12,7 +12,7 @@ use lib.ListN.{length}
 use borrow.Author.Tests.{eq-eqb, ne-eqb, ltb-true}
 use Rattle.finite.specs.Base.{firstOf, when, isIn, wordAt}
 use Rattle.finite.proofs.Tests.{and-left, and-right, equal-or-not, first-none, first-some}
-use Rattle.book.specs.Entries.{entryAt, entries, listedOf, entryFault, entriesFault, whole, entriesOf, bookFault, latest, isRising, LastRoom}
+use Rattle.book.specs.Entries.{entries, listedOf, faultAt, entriesFault, whole, entriesOf, bookFault, latest, isRising, LastRoom}
 use Rattle.book.specs.Says.{FirstBad, LastCut}
 use Rattle.book.proofs.Chain.{is-latest, rising-unlisted}
 
@@ -30,40 +30,34 @@ module _ (s : List ℕ) where
 
   -- ---- entry i, those before it having no refusal
   module _ (i : ℕ) (h : entriesFault (entries s i) ≡ 0) where
-    abbrev f : ℕ
-    f = entryFault (entries s i) (entryAt s i)
-
     -- its refusal from its words as code holds them, the latest revision being the current one
     pub fault-by : {m r q : ℕ} → m ≡ wordAt s (6 * i) → r ≡ wordAt s (6 * i + 2) → q ≡ wordAt s (6 * i + 4)
         → (last : ℕ) → last ≡ latest m (entries s i) → (b : Bool) → b ≡ isIn r (listedOf m (entries s i))
-        → firstOf (when (eqb r 0 || b) 41) (when (not (eqb q last)) 42) ≡ f
+        → firstOf (when (eqb r 0 || b) 41) (when (not (eqb q last)) 42) ≡ faultAt s i
     fault-by em er eq last el b eb =
         let l = el ∙ ap (λ (k : ℕ). latest k (entries s i)) em ∙ sym (is-latest (wordAt s (6 * i)) (entries s i) h) in
         λ x. firstOf (when (eqb (er x) 0 || (eb ∙ (λ y. isIn (er y) (listedOf (em y) (entries s i)))) x) 41) (when (not (eqb (eq x) (l x))) 42)
 
-    pub fault-on : f ≡ 0 → entriesFault (entries s (i + 1)) ≡ 0
+    pub fault-on : faultAt s i ≡ 0 → entriesFault (entries s (i + 1)) ≡ 0
     fault-on e = rw (add-one, h) e
 
   -- ---- the first bad entry decides, however many follow
   module _ (i : ℕ) (h : FirstBad s i) where
-    abbrev g : ℕ
-    g = entryFault (entries s i) (entryAt s i)
-
-    stays : (k : ℕ) → entriesFault (entries s (suc i + k)) ≡ g
+    stays : (k : ℕ) → entriesFault (entries s (suc i + k)) ≡ faultAt s i
     stays zero =
-        let here : entriesFault (entries s (suc i)) ≡ g = rw (h .before) in
+        let here : entriesFault (entries s (suc i)) ≡ faultAt s i = rw (h .before) in
         ap (λ (n : ℕ). entriesFault (entries s n)) (add-zero (suc i)) ∙ here
     stays (suc k) =
         let n = suc i + k in
         let a : suc i + suc k ≡ suc n = omega arith in
         ap (λ (j : ℕ). entriesFault (entries s j)) a
-        ∙ first-some (entriesFault (entries s n)) (entryFault (entries s n) (entryAt s n)) (λ z. h .bad (sym (stays k) ∙ z))
+        ∙ first-some (entriesFault (entries s n)) (faultAt s n) (λ z. h .bad (sym (stays k) ∙ z))
         ∙ stays k
 
-    pub first-bad : bookFault s ≡ g
+    pub first-bad : bookFault s ≡ faultAt s i
     first-bad =
         let (k, p) = le-dest (h .inside) in
-        let a : entriesFault (entriesOf s) ≡ g = ap (λ (n : ℕ). entriesFault (entries s n)) (sym p) ∙ stays k in
+        let a : entriesFault (entriesOf s) ≡ faultAt s i = ap (λ (n : ℕ). entriesFault (entries s n)) (sym p) ∙ stays k in
         first-some (entriesFault (entriesOf s)) (when (not (eqb (length s % 6) 0)) 40) (λ z. h .bad (sym a ∙ z)) ∙ a
 
   pub last-cut : LastCut s → bookFault s ≡ 40

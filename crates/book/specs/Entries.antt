@@ -51,6 +51,10 @@ entryFault es e =
     firstOf (when (eqb (e .revision) 0 || isIn (e .revision) (listedOf (e .model) es)) 41)
     (when (not (eqb (e .replaced) (current (e .model) es))) 42)
 
+-- of entry i of a book behind those before it
+abbrev pub faultAt : List ℕ → ℕ → ℕ
+faultAt s i = entryFault (entries s i) (entryAt s i)
+
 -- the first refusal among entries, from the front of the book
 abbrev pub entriesFault : List Entry → ℕ
 entriesFault [] = 0

@@ -7,7 +7,7 @@ use Prim.Native.Nat.{ℕ, _<_, _%_}
 use lib.Dec.{eqb}
 use lib.ListN.{length}
 use Rattle.finite.specs.Base.{pick, isIn}
-use Rattle.book.specs.Entries.{Entry, entryAt, entries, hasModel, listedOf, replacedOf, current, entryFault, entriesFault, whole, entriesOf, bookFault}
+use Rattle.book.specs.Entries.{Entry, entries, hasModel, listedOf, replacedOf, current, faultAt, entriesFault, whole, entriesOf, bookFault}
 use Rattle.book.specs.declared.Answer.{Answer}
 use Rattle.book.specs.declared.Answer.the-variants.{Refused, Absent, Current}
 
@@ -60,7 +60,7 @@ pub record OneCurrent (s : List ℕ) (m : ℕ) : Type 0 where
 pub record FirstBad (s : List ℕ) (i : ℕ) : Type 0 where
   pub inside : i < whole s
   pub before : entriesFault (entries s i) ≡ 0
-  pub bad : entryFault (entries s i) (entryAt s i) ≡ 0 → ⊥
+  pub bad : faultAt s i ≡ 0 → ⊥
 
 -- bytes are left over behind entries without refusal
 pub record LastCut (s : List ℕ) : Type 0 where
@@ -71,7 +71,7 @@ pub record Books : Type 0 where
   -- in an accepted book every model present has exactly one current revision
   pub one-current : (s : List ℕ) (m : ℕ) → bookFault s ≡ 0 → hasModel m (entriesOf s) ≡ true → OneCurrent s m
   -- a book is refused at its first bad entry, whatever follows, with the number of that entry; every refused book has one
-  pub first-bad : (s : List ℕ) (i : ℕ) → FirstBad s i → bookFault s ≡ entryFault (entries s i) (entryAt s i)
+  pub first-bad : (s : List ℕ) (i : ℕ) → FirstBad s i → bookFault s ≡ faultAt s i
   pub last-cut : (s : List ℕ) → LastCut s → bookFault s ≡ 40
   pub some-bad : (s : List ℕ) → (bookFault s ≡ 0 → ⊥) → ((i : ℕ) × FirstBad s i) ⊎ LastCut s
   -- the current revision of a new model is 0, so that this is what its first entry must replace

@@ -5,7 +5,7 @@ ghost use Prim.Native.Nat.{_+_, _*_, _≤_};
 ghost use lib.Dec.{eqb, ltb};
 ghost use lib.ListN.{length};
 ghost use Rattle.finite.specs.Base.{firstOf, when, isIn, wordAt};
-ghost use Rattle.book.specs.Entries.{entryAt, entries, listedOf, entryFault, latest, LastRoom, EntryRoom};
+ghost use Rattle.book.specs.Entries.{entries, listedOf, faultAt, latest, LastRoom, EntryRoom};
 ghost use Rattle.book.specs.Says.{AnswerIs};
 
 // The current revision, or that the model is not there; a refused book gives its number alone.
@@ -101,7 +101,7 @@ fn fault_of(revision: u16, repeated: bool, replaced: u16, current: u16) -> u8
 // The refusal of entry `i`, those before it having none.
 fn entry_fault(book: &[u8], i: usize, rising: bool) -> u8
     requires { ⌜ EntryRoom (now book) i rising ⌝ }
-    ensures { λ r. ⌜ r ≡ entryFault (entries (now (book .entry)) i) (entryAt (now (book .entry)) i) ⌝ }
+    ensures { λ r. ⌜ r ≡ faultAt (now (book .entry)) i ⌝ }
 {
     let model = word_at(book, 6 * i);
     let revision = word_at(book, 6 * i + 2);
