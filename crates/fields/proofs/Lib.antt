@@ -4,6 +4,14 @@ pub mod OneField
 pub mod Added
 pub mod Turns
 pub mod Walked
+pub mod FrontField
+pub mod Bytes
+pub mod Laid
+pub mod Runs
+pub mod Ascent
+pub mod Rising
+pub mod Sorted
+pub mod Slots
 pub mod Only
 pub mod Longest
 pub mod Puts

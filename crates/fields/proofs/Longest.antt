@@ -10,13 +10,13 @@ use lib.ListN.{length, getD, drop, length-drop}
 use borrow.Author.Tests.{eqb-true, eqb-false, leb-true, ne-eqb}
 use Rattle.finite.specs.Base.{pick}
 use Rattle.finite.proofs.Tests.{and-parts}
-use Rattle.fields.specs.Files.{Field, Walk, hasTag, addField, headLong, fieldFault, fieldAt, fieldsFrom, walkAll}
+use Rattle.fields.specs.Files.{Field, Walk, hasTag, addField, headLong, faultBy, fieldAt, fieldsBy, walkAll, oldWalk}
 use Rattle.fields.specs.Rules.{keeps, ruleOf, slotOf, tagAt}
 use Rattle.fields.specs.declared.Rule.{Rule}
 use Rattle.fields.specs.declared.Rule.the-variants.{Exactly, EvenUpTo, UpTo, NoTag}
 use Rattle.fields.proofs.Agree.{agrees, tag-from}
 use Rattle.fields.proofs.Added.{has-other, has-own}
-use Rattle.fields.proofs.Turns.{from-fault, from-met, passed}
+use Rattle.fields.proofs.Turns.{from-fault, from-met, passed-by}
 
 -- the most bytes of a field by its rule, its head counted in
 abbrev roomOf : Rule → ℕ
@@ -74,13 +74,13 @@ module _ (k : Bool) (fs : List Field) (f : Field) (new : hasTag (f .tag) fs ≡ 
       go false e ih = omega (arith, ih (omega (arith, eqb-false j i e)), part-other j (eqb-false j i e))
 
 -- the field at the front of s takes its bytes from the room
-module _ (k : Bool) (fs : List Field) (s : List ℕ) (ok : fieldFault k fs s ≡ 0) where
+module _ (o k : Bool) (fs : List Field) (s : List ℕ) (ok : faultBy o k fs s ≡ 0) where
   abbrev t : ℕ
   t = getD s 0 0
 
   front-takes : room 6 k (addField fs (fieldAt s)) + (3 + headLong s) ≤ room 6 k fs
   front-takes =
-      let p = passed k (hasTag t fs) s ok in
+      let p = passed-by o k fs s ok in
       let b = tag-from k t (p .tag) in
       let i = slotOf k t in
       let own : tagAt k i ≡ t = omega arith in
@@ -92,28 +92,33 @@ module _ (k : Bool) (fs : List Field) (s : List ℕ) (ok : fieldFault k fs s ≡
       )
 
   front-fits : 3 + headLong s ≤ length s
-  front-fits = passed k (hasTag t fs) s ok .size
+  front-fits = passed-by o k fs s ok .size
 
-longest-from : (l : ℕ) (k : Bool) (fs : List Field) (s : List ℕ) → length s < l → fieldsFrom l k fs s .number ≡ 0 → length s ≤ room 6 k fs
-longest-from zero k fs s h e = absurd (omega arith)
-longest-from (suc l) k fs s h e = go (eqb (length s) 0) refl (eqb (fieldFault k fs s) 0) refl (longest-from l k (addField fs (fieldAt s)) (drop (3 + headLong s) s))
+longest-from : (o : Bool) (l : ℕ) (k : Bool) (fs : List Field) (s : List ℕ) → length s < l → fieldsBy o l k fs s .number ≡ 0 → length s ≤ room 6 k fs
+longest-from o zero k fs s h e = absurd (omega arith)
+longest-from o (suc l) k fs s h e = go (eqb (length s) 0) refl (eqb (faultBy o k fs s) 0) refl (longest-from o l k (addField fs (fieldAt s)) (drop (3 + headLong s) s))
   where
-    go : (a : Bool) → eqb (length s) 0 ≡ a → (b : Bool) → eqb (fieldFault k fs s) 0 ≡ b
-        → (length (drop (3 + headLong s) s) < l → fieldsFrom l k (addField fs (fieldAt s)) (drop (3 + headLong s) s) .number ≡ 0 → length (drop (3 + headLong s) s) ≤ room 6 k (addField fs (fieldAt s)))
+    go : (a : Bool) → eqb (length s) 0 ≡ a → (b : Bool) → eqb (faultBy o k fs s) 0 ≡ b
+        → (length (drop (3 + headLong s) s) < l → fieldsBy o l k (addField fs (fieldAt s)) (drop (3 + headLong s) s) .number ≡ 0 → length (drop (3 + headLong s) s) ≤ room 6 k (addField fs (fieldAt s)))
         → length s ≤ room 6 k fs
     go true p b q ih = let z : length s ≡ 0 = eqb-true (length s) 0 p in omega arith
     go false p false q ih =
-        let n : fieldFault k fs s ≡ 0 = sym (ap (λ (w : Walk). w .number) (from-fault l k fs s p q)) ∙ e in
-        absurd (eqb-false (fieldFault k fs s) 0 q n)
+        let n : faultBy o k fs s ≡ 0 = sym (ap (λ (w : Walk). w .number) (from-fault o l k fs s p q)) ∙ e in
+        absurd (eqb-false (faultBy o k fs s) 0 q n)
     go false p true q ih =
-        let ok : fieldFault k fs s ≡ 0 = eqb-true (fieldFault k fs s) 0 q in
+        let ok : faultBy o k fs s ≡ 0 = eqb-true (faultBy o k fs s) 0 q in
         let rest = length-drop (3 + headLong s) s in
-        let fits = front-fits k fs s ok in
-        let less = ih (omega arith) (sym (ap (λ (w : Walk). w .number) (from-met l k fs s p q)) ∙ e) in
-        omega (arith, front-takes k fs s ok)
+        let fits = front-fits o k fs s ok in
+        let less = ih (omega arith) (sym (ap (λ (w : Walk). w .number) (from-met o l k fs s p q)) ∙ e) in
+        omega (arith, front-takes o k fs s ok)
 
 pub list-longest : (s : List ℕ) → walkAll false s .number ≡ 0 → length s ≤ 614
-list-longest s e = longest-from (suc (length s)) false [] s (omega arith) e
+list-longest s e = longest-from true (suc (length s)) false [] s (omega arith) e
 
 pub shape-longest : (s : List ℕ) → walkAll true s .number ≡ 0 → length s ≤ 611
-shape-longest s e = longest-from (suc (length s)) true [] s (omega arith) e
+shape-longest s e = longest-from true (suc (length s)) true [] s (omega arith) e
+
+-- in any order too
+pub older-longest : (k : Bool) (s : List ℕ) → oldWalk k s .number ≡ 0 → length s ≤ 614
+older-longest true s e = let l : length s ≤ 611 = longest-from false (suc (length s)) true [] s (omega arith) e in omega arith
+older-longest false s e = longest-from false (suc (length s)) false [] s (omega arith) e

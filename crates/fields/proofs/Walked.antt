@@ -4,19 +4,20 @@ use mathlib.Core.Path.{_≡_, refl, sym, subst, subst₂, ap, _∙_}
 use mathlib.Core.Bool.{Bool, true, false, _&&_, not}
 use mathlib.Core.List.{List, []}
 use Prim.Native.Nat.{ℕ, zero, suc, _+_, _≤_, _<_}
+use native.Mathlib.Nat.{add-zero}
 use native.Mathlib.Omega.{arith}
-use lib.Dec.{eqb, lit<}
+use lib.Dec.{eqb, ltb, lit<}
 use lib.ListN.{length, getD, take, drop, set, replicate, length-set, length-drop, getD-replicate}
-use lib.Seq.{getD-set-same, getD-set-other, drop-drop, length-take-le}
+use lib.Seq.{getD-set-same, getD-set-other, getD-drop, drop-drop, length-take-le}
 use borrow.Author.Tests.{eqb-true, eqb-false, ne-eqb, eq-eqb}
 use Rattle.finite.specs.Base.{pick, when}
-use Rattle.fields.specs.Files.{Field, Walk, walk, tagOk, hasTag, addField, allThere, headLong, fieldFault, fieldAt, fieldsFrom, walkAll}
+use Rattle.fields.specs.Files.{Field, Walk, walk, tagOk, hasTag, addField, allThere, headLong, lastTag, faultWhere, faultBy, fieldAt, fieldsBy, walkBy}
 use Rattle.fields.specs.Rules.{slotOf, tagAt, frontFault, frontOf, allSeen}
-use Rattle.fields.specs.Says.{kept, Slot, Holds, refusedBy}
+use Rattle.fields.specs.Says.{kept, Slot, HoldsBy, refusedBy}
 use Rattle.fields.specs.declared.Front.the-variants.{Fault, Met}
 use Rattle.fields.proofs.Agree.{tag-from}
-use Rattle.fields.proofs.Turns.{from-end, from-fault, from-met, fault-same, Passed, passed}
-use Rattle.fields.proofs.Added.{endFrom, end-add, has-other, content-other, place-other, has-own, content-own, place-own}
+use Rattle.fields.proofs.Turns.{from-end, from-fault, from-met, fault-same, below-is, Passed, passed}
+use Rattle.fields.proofs.Added.{endFrom, end-add, last-add, has-other, content-other, place-other, has-own, content-own, place-own}
 
 -- ---- which of its two answers `frontOf` gave
 fault-by : (e i n x : ℕ) → Fault x ≡ pick (eqb e 0) (Met i n) (Fault e) → (eqb e 0 ≡ false) × (x ≡ e)
@@ -65,26 +66,32 @@ all-of true fs seen h = rw (h 0 (lit< tt), h 1 (lit< tt), h 2 (lit< tt), h 3 (li
 all-of false fs seen h = rw (h 0 (lit< tt), h 1 (lit< tt), h 2 (lit< tt), h 3 (lit< tt), h 4 (lit< tt))
 
 -- between two fields: the fields met so far, and what is left to walk gives the file's answer
-pub record Going (k : Bool) (s at long : List ℕ) (seen : List Bool) (next : ℕ) : Type 0 where
+pub record Going (o k : Bool) (s at long : List ℕ) (seen : List Bool) (low next : ℕ) : Type 0 where
   pub fuel : ℕ
   pub fs : List Field
   pub within : next ≤ length s
   pub enough : length s < next + fuel
-  pub rest : walkAll k s ≡ fieldsFrom fuel k fs (drop next s)
+  pub rest : walkBy o k s ≡ fieldsBy o fuel k fs (drop next s)
+  pub last : low ≡ pick o (lastTag fs) 0
   pub ends : next ≡ endFrom 0 fs
   pub slots : (i : ℕ) → i < 6 → Held k s fs at long seen i
   pub long-at : length at ≡ 6
   pub long-long : length long ≡ 6
   pub long-seen : length seen ≡ 6
 
-pub going-start : (k : Bool) (s : List ℕ) → Going k s (replicate 6 0) (replicate 6 0) (replicate 6 false) 0
-going-start k s =
+zero-low : (o : Bool) → _≡_ {A = ℕ} 0 (pick o 0 0)
+zero-low true = refl
+zero-low false = refl
+
+pub going-start : (o k : Bool) (s : List ℕ) → Going o k s (replicate 6 0) (replicate 6 0) (replicate 6 false) 0 0
+going-start o k s =
     record {
       fuel = suc (length s);
       fs = [];
       within = omega arith;
       enough = omega arith;
       rest = refl;
+      last = zero-low o;
       ends = refl;
       slots = none-held k s;
       long-at = refl;
@@ -93,17 +100,17 @@ going-start k s =
     }
 
 -- the fields of a refused file
-pub refused-holds : (k : Bool) (s : List ℕ) (e : ℕ) (fs : List Field) → walkAll k s ≡ walk e fs → eqb e 0 ≡ false → Holds k s (refusedBy e)
-refused-holds k s e fs w n =
+pub refused-holds : (o k : Bool) (s : List ℕ) (e : ℕ) (fs : List Field) → walkBy o k s ≡ walk e fs → eqb e 0 ≡ false → HoldsBy o k s (refusedBy e)
+refused-holds o k s e fs w n =
     record {
       number = ap (λ (v : Walk). v .number) (sym w);
       slot = λ i h. subst (λ (v : List Field). Held k s v (replicate 6 0) (replicate 6 0) (replicate 6 false) i) (sym none) (none-held k s i h);
     }
   where
-    none : kept (walkAll k s) ≡ []
+    none : kept (walkBy o k s) ≡ []
     none = ap kept w ∙ rw n
 
-module _ (k : Bool) (s at long : List ℕ) (seen : List Bool) (next : ℕ) (g : Going k s at long seen next) where
+module _ (o k : Bool) (s at long : List ℕ) (seen : List Bool) (low next : ℕ) (g : Going o k s at long seen low next) where
   -- what is left, the tag at its front with its slot, the length behind it, and the field
   abbrev r : List ℕ
   r = drop next s
@@ -121,7 +128,7 @@ module _ (k : Bool) (s at long : List ℕ) (seen : List Bool) (next : ℕ) (g : 
   f = fieldAt r
 
   abbrev fault : ℕ
-  fault = frontFault k seen r
+  fault = frontFault k seen low r
 
   -- the tag's slot says whether it was met
   seen-is : tagOk k t ≡ true → getD seen slot false ≡ hasTag t (g .fs)
@@ -130,8 +137,16 @@ module _ (k : Bool) (s at long : List ℕ) (seen : List Bool) (next : ℕ) (g : 
       let e : tagAt k slot ≡ t = omega arith in
       rw e at (g .slots slot (omega arith) .there)
 
-  fault-is : fieldFault k (g .fs) r ≡ fault
-  fault-is = sym (fault-same k _ _ r seen-is)
+  below : ltb t low ≡ (o && ltb t (lastTag (g .fs)))
+  below = ap (ltb t) (g .last) ∙ below-is o t (lastTag (g .fs))
+
+  fault-is : faultBy o k (g .fs) r ≡ fault
+  fault-is =
+      ap (λ (b : Bool). faultWhere k (hasTag t (g .fs)) b r) (sym below)
+      ∙ sym (fault-same k (getD seen slot false) (hasTag t (g .fs)) (ltb t low) r seen-is)
+
+  tag-at : next < length s → t ≡ getD s next 0
+  tag-at h = getD-drop next s 0 0 ∙ ap (λ (i : ℕ). getD s i 0) (add-zero next)
 
   left : next < length s → eqb (length r) 0 ≡ false
   left h = ne-eqb (length r) 0 (omega (arith, length-drop next s))
@@ -144,23 +159,23 @@ module _ (k : Bool) (s at long : List ℕ) (seen : List Bool) (next : ℕ) (g : 
       go zero e = absurd (omega (arith, g .enough, g .within))
       go (suc l) e = (l, e)
 
-  rest-from : (l : ℕ) → g .fuel ≡ suc l → walkAll k s ≡ fieldsFrom (suc l) k (g .fs) r
-  rest-from l e = subst (λ (x : ℕ). walkAll k s ≡ fieldsFrom x k (g .fs) r) e (g .rest)
+  rest-from : (l : ℕ) → g .fuel ≡ suc l → walkBy o k s ≡ fieldsBy o (suc l) k (g .fs) r
+  rest-from l e = subst (λ (x : ℕ). walkBy o k s ≡ fieldsBy o x k (g .fs) r) e (g .rest)
 
   module _ (here : next < length s) where
-    pub going-fault : (e : ℕ) → Fault e ≡ frontOf k seen r → Holds k s (refusedBy e)
+    pub going-fault : (e : ℕ) → Fault e ≡ frontOf k seen low r → HoldsBy o k s (refusedBy e)
     going-fault e q =
         let (z, y) = fault-by fault slot n e q in
         let (l, m) = more in
-        let same : fieldFault k (g .fs) r ≡ e = fault-is ∙ sym y in
+        let same : faultBy o k (g .fs) r ≡ e = fault-is ∙ sym y in
         let no : eqb e 0 ≡ false = rw y z in
-        let w = from-fault l k (g .fs) r (left here) (ap (λ (x : ℕ). eqb x 0) same ∙ no) in
-        refused-holds k s e [] (rest-from l m ∙ w ∙ ap (λ (x : ℕ). walk x []) same) no
+        let w = from-fault o l k (g .fs) r (left here) (ap (λ (x : ℕ). eqb x 0) same ∙ no) in
+        refused-holds o k s e [] (rest-from l m ∙ w ∙ ap (λ (x : ℕ). walk x []) same) no
 
     -- the field at the front passed
     module _ (ok : fault ≡ 0) where
-      p : Passed k (getD seen slot false) r
-      p = passed k (getD seen slot false) r ok
+      p : Passed k (getD seen slot false) (ltb t low) r
+      p = passed k (getD seen slot false) (ltb t low) r ok
 
       fits : next + 3 + n ≤ length s
       fits = omega (arith, p .size, length-drop next s)
@@ -209,17 +224,18 @@ module _ (k : Bool) (s at long : List ℕ) (seen : List Bool) (next : ℕ) (g : 
               )
               (other-slot s (g .fs) f (tagAt k j) _ _ _ (ne-eqb (tagAt k j) t (omega (arith, no, slot-tag))) (g .slots j h))
 
-      going-on : Going k s (set at slot (next + 3)) (set long slot n) (set seen slot true) (next + 3 + n)
+      going-on : Going o k s (set at slot (next + 3)) (set long slot n) (set seen slot true) (pick o (getD s next 0) 0) (next + 3 + n)
       going-on =
           let (l, m) = more in
-          let z = from-met l k (g .fs) r (left here) (eq-eqb _ 0 (fault-is ∙ ok)) in
+          let z = from-met o l k (g .fs) r (left here) (eq-eqb _ 0 (fault-is ∙ ok)) in
           let e : next + (3 + n) ≡ next + 3 + n = omega arith in
           record {
             fuel = l;
             fs = addField (g .fs) f;
             within = fits;
             enough = omega (arith, g .enough, m);
-            rest = rest-from l m ∙ z ∙ ap (fieldsFrom l k (addField (g .fs) f)) (drop-drop (3 + n) next s ∙ ap (λ (x : ℕ). drop x s) e);
+            rest = rest-from l m ∙ z ∙ ap (fieldsBy o l k (addField (g .fs) f)) (drop-drop (3 + n) next s ∙ ap (λ (x : ℕ). drop x s) e);
+            last = ap (λ (x : ℕ). pick o x 0) (sym (tag-at here) ∙ sym (last-add (g .fs) f));
             ends = omega (arith, end-add 0 (g .fs) f, size, g .ends);
             slots = slots-on;
             long-at = length-set at slot (next + 3) ∙ g .long-at;
@@ -228,29 +244,29 @@ module _ (k : Bool) (s at long : List ℕ) (seen : List Bool) (next : ℕ) (g : 
           }
 
     -- a field met: its slot and place, and the walk goes on behind it
-    pub going-met : (i m : ℕ) → Met i m ≡ frontOf k seen r → (i < 6) × (next + 3 + m ≤ length s) × Going k s (set at i (next + 3)) (set long i m) (set seen i true) (next + 3 + m)
+    pub going-met : (i m : ℕ) → Met i m ≡ frontOf k seen low r → (i < 6) × (next + 3 + m ≤ length s) × Going o k s (set at i (next + 3)) (set long i m) (set seen i true) (pick o (getD s next 0) 0) (next + 3 + m)
     going-met i m q =
         let (z, a, b) = met-by fault slot n i m q in
-        subst₂ (λ (i m : ℕ). (i < 6) × (next + 3 + m ≤ length s) × Going k s (set at i (next + 3)) (set long i m) (set seen i true) (next + 3 + m))
+        subst₂ (λ (i m : ℕ). (i < 6) × (next + 3 + m ≤ length s) × Going o k s (set at i (next + 3)) (set long i m) (set seen i true) (pick o (getD s next 0) 0) (next + 3 + m))
         (sym a) (sym b) (slot-below z, fits z, going-on z)
 
   -- the end of the file
   module _ (done : length s ≤ next) where
-    at-end : walkAll k s ≡ walk (when (not (allThere k (g .fs))) 6) (g .fs)
+    at-end : walkBy o k s ≡ walk (when (not (allThere k (g .fs))) 6) (g .fs)
     at-end =
         let (l, m) = more in
-        rest-from l m ∙ from-end l k (g .fs) r (eq-eqb (length r) 0 (omega (arith, length-drop next s, done, g .within)))
+        rest-from l m ∙ from-end o l k (g .fs) r (eq-eqb (length r) 0 (omega (arith, length-drop next s, done, g .within)))
 
     all-is : allSeen k seen ≡ allThere k (g .fs)
     all-is = all-of k (g .fs) seen (λ i h. g .slots i h .there)
 
-    pub going-short : allSeen k seen ≡ false → Holds k s (refusedBy 6)
+    pub going-short : allSeen k seen ≡ false → HoldsBy o k s (refusedBy 6)
     going-short e =
-        refused-holds k s 6 (g .fs) (at-end ∙ ap (λ (b : Bool). walk (when (not b) 6) (g .fs)) (sym all-is ∙ e)) refl
+        refused-holds o k s 6 (g .fs) (at-end ∙ ap (λ (b : Bool). walk (when (not b) 6) (g .fs)) (sym all-is ∙ e)) refl
 
-    pub going-done : allSeen k seen ≡ true → Holds k s (record { number = 0; at = at; long = long; seen = seen })
+    pub going-done : allSeen k seen ≡ true → HoldsBy o k s (record { number = 0; at = at; long = long; seen = seen })
     going-done e =
-        let w : walkAll k s ≡ walk 0 (g .fs) = at-end ∙ ap (λ (b : Bool). walk (when (not b) 6) (g .fs)) (sym all-is ∙ e) in
+        let w : walkBy o k s ≡ walk 0 (g .fs) = at-end ∙ ap (λ (b : Bool). walk (when (not b) 6) (g .fs)) (sym all-is ∙ e) in
         record {
           number = ap (λ (v : Walk). v .number) (sym w);
           slot = λ i h. subst (λ (v : Walk). Held k s (kept v) at long seen i) (sym w) (g .slots i h);

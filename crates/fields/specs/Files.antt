@@ -1,4 +1,4 @@
--- Fields of both files: the walk's refusals 1 to 6; a field's bytes.
+-- Fields of both files: the walk's refusals 1 to 6 and 29; a field's bytes.
 use mathlib.Core.Bool.{Bool, true, false, _&&_, _||_, not}
 use mathlib.Core.List.{List, [], _∷_, _++_}
 use Prim.Native.Nat.{ℕ, zero, suc, _+_, _*_, _/_, _%_}
@@ -54,39 +54,60 @@ allThere isShape fs =
 abbrev pub headLong : List ℕ → ℕ
 headLong s = 256 * getD s 1 0 + getD s 2 0
 
--- refusals 1 to 5 of the field at the front of s, told whether its tag was met before
-abbrev pub faultWhere : Bool → Bool → List ℕ → ℕ
-faultWhere isShape met s =
+-- the tag of the last field met; 0 where there is none
+abbrev pub lastTag : List Field → ℕ
+lastTag [] = 0
+lastTag (f ∷ []) = f .tag
+lastTag (f ∷ (g ∷ fs)) = lastTag (g ∷ fs)
+
+-- refusals 1, 2, 3, 29, 4, 5 of the field at the front of s, told whether its tag was met before and whether it is below the previous one
+abbrev pub faultWhere : Bool → Bool → Bool → List ℕ → ℕ
+faultWhere isShape met below s =
     let t = getD s 0 0 in
     let n = headLong s in
     firstOf (when (ltb (length s) 3) 1)
     (firstOf (when (not (tagOk isShape t)) 2)
     (firstOf (when met 3)
+    (firstOf (when below 29)
     (firstOf (when (not (longOk isShape t n)) 4)
-    (when (ltb (length s) (3 + n)) 5))))
+    (when (ltb (length s) (3 + n)) 5)))))
+
+-- in order: tags ascend; else in any order, as files were before request E7
+abbrev pub faultBy : Bool → Bool → List Field → List ℕ → ℕ
+faultBy inOrder isShape fs s = let t = getD s 0 0 in faultWhere isShape (hasTag t fs) (inOrder && ltb t (lastTag fs)) s
 
 abbrev pub fieldFault : Bool → List Field → List ℕ → ℕ
-fieldFault isShape fs s = faultWhere isShape (hasTag (getD s 0 0) fs) s
+fieldFault isShape fs s = faultBy true isShape fs s
 
 -- the field at the front of s
 abbrev pub fieldAt : List ℕ → Field
 fieldAt s = record { tag = getD s 0 0; content = take (headLong s) (drop 3 s) }
 
 -- the walk from fs over s, by a fuel above the length of s
-abbrev pub fieldsFrom : ℕ → Bool → List Field → List ℕ → Walk
-fieldsFrom zero isShape fs s = walk 0 fs
-fieldsFrom (suc l) isShape fs s =
-    let e = fieldFault isShape fs s in
+abbrev pub fieldsBy : Bool → ℕ → Bool → List Field → List ℕ → Walk
+fieldsBy inOrder zero isShape fs s = walk 0 fs
+fieldsBy inOrder (suc l) isShape fs s =
+    let e = faultBy inOrder isShape fs s in
     elim (eqb (length s) 0) [
       | true ↦ walk (when (not (allThere isShape fs)) 6) fs
       | false ↦ elim (eqb e 0) [
-        | true ↦ fieldsFrom l isShape (addField fs (fieldAt s)) (drop (3 + headLong s) s)
+        | true ↦ fieldsBy inOrder l isShape (addField fs (fieldAt s)) (drop (3 + headLong s) s)
         | false ↦ walk e []
       ]
     ]
 
+abbrev pub walkBy : Bool → Bool → List ℕ → Walk
+walkBy inOrder isShape s = fieldsBy inOrder (suc (length s)) isShape [] s
+
+abbrev pub fieldsFrom : ℕ → Bool → List Field → List ℕ → Walk
+fieldsFrom l isShape fs s = fieldsBy true l isShape fs s
+
 abbrev pub walkAll : Bool → List ℕ → Walk
-walkAll isShape s = fieldsFrom (suc (length s)) isShape [] s
+walkAll isShape s = walkBy true isShape s
+
+-- the walk over an older file
+abbrev pub oldWalk : Bool → List ℕ → Walk
+oldWalk isShape s = walkBy false isShape s
 
 -- a number in two bytes, and a field as it stands in a file
 abbrev pub two : ℕ → List ℕ

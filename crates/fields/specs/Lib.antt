@@ -3,3 +3,4 @@ pub mod Files
 pub mod Rules
 pub mod Says
 pub mod Writing
+pub mod Ordering

@@ -3,7 +3,7 @@ use mathlib.Core.Path.{_≡_}
 use mathlib.Core.Bool.{Bool, true, false, _&&_, _||_, not}
 use mathlib.Core.List.{List}
 use Prim.Native.Nat.{ℕ, _+_, _-_, _%_}
-use lib.Dec.{eqb, leb}
+use lib.Dec.{eqb, ltb, leb}
 use lib.ListN.{getD}
 use Rattle.finite.specs.Base.{pick, when}
 use Rattle.fields.specs.Files.{tagOk, longOk, headLong, faultWhere}
@@ -71,20 +71,22 @@ abbrev pub numberOf : Front → ℕ
 numberOf (Fault e) = e
 numberOf (Met slot long) = 0
 
--- the fault of the field at the front of s, the slots told that were seen before it
-abbrev pub frontFault : Bool → List Bool → List ℕ → ℕ
-frontFault isShape seen s = faultWhere isShape (getD seen (slotOf isShape (getD s 0 0)) false) s
+-- the fault of the field at the front of s, told the slots that were seen before it and the tag that it may not be below
+abbrev pub frontFault : Bool → List Bool → ℕ → List ℕ → ℕ
+frontFault isShape seen low s =
+    let t = getD s 0 0 in
+    faultWhere isShape (getD seen (slotOf isShape t) false) (ltb t low) s
 
 -- that field: refused, or met with its slot and its content's length
-abbrev pub frontOf : Bool → List Bool → List ℕ → Front
-frontOf isShape seen s =
-    let e = frontFault isShape seen s in
+abbrev pub frontOf : Bool → List Bool → ℕ → List ℕ → Front
+frontOf isShape seen low s =
+    let e = frontFault isShape seen low s in
     pick (eqb e 0) (Met (slotOf isShape (getD s 0 0)) (headLong s)) (Fault e)
 
 -- the answer, with its number
-pub record FrontIs (isShape : Bool) (seen : List Bool) (s : List ℕ) (r : Front) : Type 0 where
-  pub front : r ≡ frontOf isShape seen s
-  pub number : numberOf r ≡ frontFault isShape seen s
+pub record FrontIs (isShape : Bool) (seen : List Bool) (low : ℕ) (s : List ℕ) (r : Front) : Type 0 where
+  pub front : r ≡ frontOf isShape seen low s
+  pub number : numberOf r ≡ frontFault isShape seen low s
 
 -- every field but the remark is there
 abbrev pub allSeen : Bool → List Bool → Bool

@@ -6,7 +6,7 @@ use Prim.Native.Nat.{ℕ, _+_, _*_, _≤_, _<_}
 use lib.Dec.{eqb}
 use lib.ListN.{length, getD, take, drop, replicate}
 use Rattle.finite.specs.Base.{pick, wordAt}
-use Rattle.fields.specs.Files.{Field, Walk, hasTag, contentOf, walkAll}
+use Rattle.fields.specs.Files.{Field, Walk, hasTag, contentOf, walkBy}
 use Rattle.fields.specs.Rules.{tagAt}
 use Rattle.fields.specs.declared.Fields.{Fields}
 
@@ -27,9 +27,12 @@ pub record Slot (s : List ℕ) (fs : List Field) (t : ℕ) (at long : ℕ) (seen
   pub inside : at + long ≤ length s
   pub content : take long (drop at s) ≡ contentOf t fs
 
-pub record Holds (isShape : Bool) (s : List ℕ) (f : Fields) : Type 0 where
-  pub number : f .number ≡ walkAll isShape s .number
-  pub slot : (i : ℕ) → i < 6 → Slot s (kept (walkAll isShape s)) (tagAt isShape i) (getD (f .at) i 0) (getD (f .long) i 0) (getD (f .seen) i false)
+pub record HoldsBy (inOrder isShape : Bool) (s : List ℕ) (f : Fields) : Type 0 where
+  pub number : f .number ≡ walkBy inOrder isShape s .number
+  pub slot : (i : ℕ) → i < 6 → Slot s (kept (walkBy inOrder isShape s)) (tagAt isShape i) (getD (f .at) i 0) (getD (f .long) i 0) (getD (f .seen) i false)
+
+abbrev pub Holds : Bool → List ℕ → Fields → Type 0
+Holds isShape s f = HoldsBy true isShape s f
 
 -- a refusal gives its number alone
 abbrev pub refusedBy : ℕ → Fields

@@ -5,8 +5,10 @@ ghost use Prim.Native.Nat.{_<_};
 ghost use lib.ListN.{getD};
 ghost use Rattle.fields.specs.Files.{tagOk};
 ghost use Rattle.fields.specs.Rules.{RuleIs, FrontIs, keeps, slotOf, allSeen};
-ghost use Rattle.fields.specs.Says.{Holds, Within, bytesOf, word, refusedBy};
+ghost use Rattle.finite.specs.Base.{pick};
+ghost use Rattle.fields.specs.Says.{Holds, HoldsBy, Within, bytesOf, word, refusedBy};
 
+pub mod ordering;
 pub mod writing;
 
 // The length rule of a tag.
@@ -98,9 +100,9 @@ fn slot_of(shape: bool, tag: u8) -> usize
     }
 }
 
-// The field at the front of `s`, with the slots seen before it: all five refusals, then the field.
-fn step(s: &[u8], shape: bool, seen: [bool; 6]) -> Front
-    ensures { λ r. ⌜ FrontIs shape seen (now (s .entry)) r ⌝ }
+// The field at the front of `s`, with the slots seen before it and the tag that it may not be below: all six refusals, then the field.
+fn step(s: &[u8], shape: bool, seen: [bool; 6], low: u8) -> Front
+    ensures { λ r. ⌜ FrontIs shape seen low (now (s .entry)) r ⌝ }
 {
     let left = s.len();
     if left < 3 {
@@ -113,10 +115,14 @@ fn step(s: &[u8], shape: bool, seen: [bool; 6]) -> Front
     }
     let slot = slot_of(shape, tag);
     let is_met = seen[slot];
+    let is_below = tag < low;
     let long = 256 * wide(s[1]) + wide(s[2]);
     let is_wrong = !allows(rule, long);
     if is_met {
         return Front::Fault(3);
+    }
+    if is_below {
+        return Front::Fault(29);
     }
     if is_wrong {
         return Front::Fault(4);
@@ -146,16 +152,28 @@ fn refused(number: u8) -> Fields
     }
 }
 
+// The tag that the next field may not be below: this one where tags ascend, else none.
+fn lowest_after(in_order: bool, tag: u8) -> u8
+    ensures { λ r. ⌜ r ≡ pick «in_order» tag 0 ⌝ }
+{
+    if in_order {
+        return tag;
+    }
+    0
+}
+
 // The walk over a file, field by field from the front, then 6.
-fn walk(s: &[u8], shape: bool) -> Fields
-    ensures { λ r. ⌜ Holds shape (now (s .entry)) r ⌝ }
+fn walk(s: &[u8], shape: bool, in_order: bool) -> Fields
+    ensures { λ r. ⌜ HoldsBy «in_order» shape (now (s .entry)) r ⌝ }
 {
     let mut at = [0usize; 6];
     let mut long = [0usize; 6];
     let mut seen = [false; 6];
+    let mut low = 0u8;
     let mut next = 0;
     while s.len() - next > 0 {
-        let front = step(&s[next..], shape, seen);
+        let tag = s[next];
+        let front = step(&s[next..], shape, seen, low);
         match front {
             Front::Fault(number) => {
                 return refused(number);
@@ -164,6 +182,7 @@ fn walk(s: &[u8], shape: bool) -> Fields
                 at[slot] = next + 3;
                 long[slot] = n;
                 seen[slot] = true;
+                low = lowest_after(in_order, tag);
                 next = next + 3 + n;
             }
         }
@@ -184,14 +203,21 @@ fn walk(s: &[u8], shape: bool) -> Fields
 pub fn walk_list(s: &[u8]) -> Fields
     ensures { λ r. ⌜ Holds false (now (s .entry)) r ⌝ }
 {
-    walk(s, false)
+    walk(s, false, true)
 }
 
 // The fields of a shape, or its refusal.
 pub fn walk_shape(s: &[u8]) -> Fields
     ensures { λ r. ⌜ Holds true (now (s .entry)) r ⌝ }
 {
-    walk(s, true)
+    walk(s, true, true)
+}
+
+// The fields of an older file, in any order, or its refusal.
+pub fn walk_older(s: &[u8], shape: bool) -> Fields
+    ensures { λ r. ⌜ HoldsBy false shape (now (s .entry)) r ⌝ }
+{
+    walk(s, shape, false)
 }
 
 // The content of a slot; empty where the field is absent.

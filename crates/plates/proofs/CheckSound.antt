@@ -18,7 +18,7 @@ use Rattle.plates.specs.Says.{word, anglesIn, rightsIn, checkFault, Chec
 use Rattle.plates.specs.Read.{WalkedFile, shapeFileFault}
 use Rattle.shapes.specs.Judge.{judgement}
 use Rattle.plates.specs.Checks.{refusedVerdict, verdictOf, Judged}
-use Rattle.plates.proofs.Contents.{all-laid, all-there}
+use Rattle.fields.proofs.Laid.{all-laid, all-there}
 use Rattle.plates.proofs.HeldLists.{walked-content}
 
 -- places in turn: the list, the shape file, the verdict
@@ -102,13 +102,13 @@ module _ {t : List ℕ} {g : Fields} (w : WalkedFile true t g) where
 
   there-20 : hasTag 20 us ≡ true
   there-20 =
-      let e1 = all-there true t (w .passed) in
+      let e1 = all-there true true t (w .passed) in
       let e2 = and-right (hasTag 17 us) (hasTag 18 us && (hasTag 19 us && hasTag 20 us)) e1 in
       let e3 = and-right (hasTag 18 us) (hasTag 19 us && hasTag 20 us) e2 in
       and-right (hasTag 19 us) (hasTag 20 us) e3
 
   pub rights-few : (r : List ℕ) → r ≡ bytesOf t g 3 → length r ≤ 256
-  rights-few r e = omega (arith, ap length (e ∙ walked-content w 3 (lit< tt)), leb-true (length (contentOf 20 us)) 256 (all-laid true t 20 there-20))
+  rights-few r e = omega (arith, ap length (e ∙ walked-content w 3 (lit< tt)), leb-true (length (contentOf 20 us)) 256 (all-laid true true t 20 there-20))
 
   pub verdict-read : (judged fewest : ℕ) (a x b r : List ℕ) (n k : ℕ) (v : Verdict) (i j ij : Bool) → b ≡ bytesOf t g 2 → r ≡ bytesOf t g 3 → n ≡ word (bytesOf t g 1) → k ≡ total r
       → i ≡ same a b → j ≡ same x r → ij ≡ (i && j) → v ≡ verdictOf judged n k fewest ij → (s : List ℕ) → Judged s t judged a x fewest → CheckSays s t v

@@ -9,39 +9,20 @@ use lib.ListN.{length, getD, take, drop}
 use borrow.Author.Tests.{eqb-true, lt-ltb, leb-true}
 use Rattle.finite.proofs.Tests.{and-left, and-right, and-both, each-over}
 use Rattle.fields.proofs.Added.{content-other, content-own}
-use Rattle.fields.proofs.Turns.{passed}
+use Rattle.fields.proofs.Turns.{passed-by}
+use Rattle.fields.proofs.Bytes.{bytes-take, bytes-drop, bytes-append, bytes-two, bytes-field}
+use Rattle.fields.proofs.Laid.{every-field}
 use Rattle.shapes.proofs.Meets.{meets-facts}
 use Rattle.plates.specs.Plates.{Plate, pick}
 use Rattle.plates.specs.Shapes.{total, anglesOk, rightsOf, shapeOf}
 use Rattle.plates.specs.Files.{Field, hasTag, contentOf, addField, headLong, fieldFault, fieldAt, walkAll, two, field, remarkPart, fileBytes, shapeBytes, listFault, plateOf}
 use Rattle.plates.specs.Claims.{Best}
 use Rattle.plates.specs.Says.{allBytes}
-use Rattle.plates.proofs.Contents.{every-field, ListFields, list-fields}
+use Rattle.plates.proofs.Contents.{ListFields, list-fields}
 use Rattle.plates.proofs.Lists.{list-walked, list-accepted}
 use Rattle.plates.proofs.ShapeFile.{from-18, from-19, from-20}
 use Rattle.plates.proofs.ReadsBack.{angles-many, rights-many, shape-bytes}
 use Rattle.shapes.proofs.BestFits.{best-unit, best-total}
-
--- parts and rows of bytes
-bytes-take : (n : ℕ) (s : List ℕ) → allBytes s ≡ true → allBytes (take n s) ≡ true
-bytes-take zero s e = refl
-bytes-take (suc n) [] e = refl
-bytes-take (suc n) (x ∷ xs) e = and-both (ltb x 256) _ (and-left (ltb x 256) (allBytes xs) e) (bytes-take n xs (and-right (ltb x 256) (allBytes xs) e))
-
-bytes-drop : (n : ℕ) (s : List ℕ) → allBytes s ≡ true → allBytes (drop n s) ≡ true
-bytes-drop zero s e = e
-bytes-drop (suc n) [] e = refl
-bytes-drop (suc n) (x ∷ xs) e = bytes-drop n xs (and-right (ltb x 256) (allBytes xs) e)
-
-bytes-append : (s t : List ℕ) → allBytes s ≡ true → allBytes t ≡ true → allBytes (s ++ t) ≡ true
-bytes-append [] t e h = h
-bytes-append (x ∷ xs) t e h = and-both (ltb x 256) _ (and-left (ltb x 256) (allBytes xs) e) (bytes-append xs t (and-right (ltb x 256) (allBytes xs) e) h)
-
-bytes-two : (v : ℕ) → v < 65536 → allBytes (two v) ≡ true
-bytes-two v l = and-both _ _ (lt-ltb (v / 256) 256 (omega arith)) (and-both _ true (lt-ltb (v % 256) 256 (omega arith)) refl)
-
-bytes-field : (t : ℕ) (c : List ℕ) → t < 256 → length c < 65536 → allBytes c ≡ true → allBytes (field t c) ≡ true
-bytes-field t c l k e = and-both _ _ (lt-ltb t 256 l) (bytes-append (two (length c)) c (bytes-two (length c) k) e)
 
 bytes-angles : (a : List ℕ) → anglesOk a ≡ true → allBytes a ≡ true
 bytes-angles [] e = refl
@@ -59,12 +40,12 @@ more-contents k fs s e all ok t = go (eqb t (fieldAt s .tag)) refl
   where
     go : (b : Bool) → eqb t (fieldAt s .tag) ≡ b → allBytes (contentOf t (addField fs (fieldAt s))) ≡ true
     go true q =
-        rw (eqb-true t (fieldAt s .tag) q, content-own (fieldAt s) fs (passed k (hasTag (fieldAt s .tag) fs) s ok .new))
+        rw (eqb-true t (fieldAt s .tag) q, content-own (fieldAt s) fs (passed-by true k fs s ok .new))
         (bytes-take (headLong s) (drop 3 s) (bytes-drop 3 s e))
     go false q = rw (content-other t (fieldAt s) q fs) (all t)
 
 pub contents-bytes : (k : Bool) (s : List ℕ) → allBytes s ≡ true → AllContents (walkAll k s .fields)
-contents-bytes k s e = every-field k (λ r. allBytes r ≡ true) AllContents (λ t. refl) bytes-drop (more-contents k) (suc (length s)) [] s e (λ t. refl)
+contents-bytes k s e = every-field true k (λ r. allBytes r ≡ true) AllContents (λ t. refl) bytes-drop (more-contents k) (suc (length s)) [] s e (λ t. refl)
 
 module _ (s a r : List ℕ) (e : listFault s ≡ 0) (bytes : allBytes s ≡ true) (best : Best (plateOf s) (shapeOf (plateOf s) a r)) (counts : rightsOf (shapeOf (plateOf s) a r .words) ≡ r) where
   abbrev p : Plate

@@ -2,7 +2,6 @@
 pub mod Contents
 pub mod Lists
 pub mod Sound
-pub mod FrontField
 pub mod ShapeFile
 pub mod ReadsBack
 pub mod FileBytes

@@ -7,7 +7,7 @@ use native.Mathlib.Omega.{arith}
 use lib.Dec.{eqb, ltb}
 use lib.ListN.{length}
 use Rattle.finite.proofs.Tests.{first-same, first-of, when-of, fault-of}
-use Rattle.fields.proofs.Turns.{walk-few}
+use Rattle.fields.proofs.Turns.{walk-number}
 use Rattle.embedding.proofs.Loops as Plates
 use Rattle.shapes.proofs.Accepted.{faultless, ordered}
 use Rattle.shapes.proofs.Tried.{loop-best}
@@ -74,7 +74,7 @@ none : other 0
 none e = omega arith
 
 walk-never : (k : Bool) (s : List ℕ) → other (walkAll k s .number)
-walk-never k s e = omega (arith, walk-few k s)
+walk-never = walk-number other true (λ n l e. omega arith) (λ b. when-of other none b 29 (λ e. omega arith))
 
 list-never : (s : List ℕ) → other (listFault s)
 list-never s = first-of other none (walkAll false s .number) (plateFault (plateOf s)) (walk-never false s) (Plates.never-ten (plateOf s))

@@ -13,7 +13,7 @@ use Rattle.plates.specs.Files.{Field, Walk, walk, contentOf, walkAll, li
 use Rattle.plates.specs.Says.{word, anglesIn, rightsIn, checkFault, fileLong, Reads-back}
 use Rattle.plates.proofs.Contents.{ListFields, list-fields}
 use Rattle.plates.proofs.Lists.{list-walked}
-use Rattle.plates.proofs.FrontField.{word-two}
+use Rattle.fields.proofs.FrontField.{word-two}
 use Rattle.plates.proofs.ShapeFile.{bytes-long, fieldsMet, file-walked}
 use Rattle.plates.proofs.Sound.{sound-exactly}
 

@@ -10,7 +10,7 @@ use Rattle.plates.specs.Plates.{pick}
 use Rattle.plates.specs.Shapes.{total}
 use Rattle.plates.specs.Files.{Field, walk, hasTag, contentOf, fieldsFrom, walkAll, two, field, remarkPart, fileBytes}
 use Rattle.plates.specs.Says.{remarkLong}
-use Rattle.plates.proofs.FrontField.{metField, front-met}
+use Rattle.fields.proofs.FrontField.{metField, front-met}
 
 pub remark-long : (fs : List Field) → length (remarkPart fs) ≡ remarkLong fs
 remark-long fs = go (hasTag 6 fs)
@@ -57,10 +57,10 @@ module _ (fs : List Field) (a r : List ℕ) (revision : length (contentOf 1 fs) 
   module _ (angles-most : length a ≤ 256) (rights-most : length r ≤ 256) (remark-most : length (contentOf 6 fs) ≤ 80) where
     walk-four : (l : ℕ) → fieldsFrom (suc (suc (suc (suc l)))) true [] (fileBytes fs a r) ≡ fieldsFrom l true (four []) (remarkPart fs)
     walk-four l =
-        front-met true [] 17 (contentOf 1 fs) (from-18 fs a r) refl refl (eq-eqb (length (contentOf 1 fs)) 2 revision) (suc (suc (suc l)))
-        ∙ front-met true (first ∷ []) 18 (two (total r)) (from-19 fs a r) refl refl refl (suc (suc l))
-        ∙ front-met true (first ∷ (second ∷ [])) 19 a (from-20 fs r) refl refl (le-leb (length a) 256 angles-most) (suc l)
-        ∙ front-met true (first ∷ (second ∷ (metField 19 a ∷ []))) 20 r (remarkPart fs) refl refl (le-leb (length r) 256 rights-most) l
+        front-met 17 (contentOf 1 fs) (from-18 fs a r) true true [] refl refl refl (eq-eqb (length (contentOf 1 fs)) 2 revision) (suc (suc (suc l)))
+        ∙ front-met 18 (two (total r)) (from-19 fs a r) true true (first ∷ []) refl refl refl refl (suc (suc l))
+        ∙ front-met 19 a (from-20 fs r) true true (first ∷ (second ∷ [])) refl refl refl (le-leb (length a) 256 angles-most) (suc l)
+        ∙ front-met 20 r (remarkPart fs) true true (first ∷ (second ∷ (metField 19 a ∷ []))) refl refl refl (le-leb (length r) 256 rights-most) l
 
     walk-remark : (l : ℕ) → fieldsFrom (suc (suc l)) true (four []) (remarkPart fs) ≡ walk 0 fieldsMet
     walk-remark l = go (hasTag 6 fs)
@@ -71,7 +71,7 @@ module _ (fs : List Field) (a r : List ℕ) (revision : length (contentOf 1 fs) 
         go : (b : Bool) → fieldsFrom (suc (suc l)) true (four []) (pick b (field 21 (contentOf 6 fs)) []) ≡ walk 0 (four (pick b (metField 21 (contentOf 6 fs) ∷ []) []))
         go true =
             ap (fieldsFrom (suc (suc l)) true (four [])) (sym (append-nil (field 21 (contentOf 6 fs))))
-            ∙ front-met true (four []) 21 (contentOf 6 fs) [] refl refl (le-leb (length (contentOf 6 fs)) 80 remark-most) (suc l)
+            ∙ front-met 21 (contentOf 6 fs) [] true true (four []) refl refl refl (le-leb (length (contentOf 6 fs)) 80 remark-most) (suc l)
         go false = refl
 
     pub file-walked : walkAll true (fileBytes fs a r) ≡ walk 0 fieldsMet

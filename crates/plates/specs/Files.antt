@@ -1,11 +1,11 @@
--- Plate lists and shape files: the walk's refusals 1 to 6 as the crate fields defines them; the plate of a list; the bytes of a shape file.
+-- Plate lists and shape files: the walk's refusals 1 to 6 and 29 as the crate fields defines them; the plate of a list; the bytes of a shape file.
 use mathlib.Core.Bool.{false}
 use mathlib.Core.List.{List, [], _++_}
 use Prim.Native.Nat.{ℕ}
 use lib.ListN.{getD}
 use Rattle.plates.specs.Plates.{pick, firstOf, Plate, plate, plateFault}
 use Rattle.plates.specs.Shapes.{Shape, rightsOf, total}
-pub use Rattle.fields.specs.Files.{tagOk, longOk, Field, hasTag, contentOf, addField, Walk, walk, allThere, headLong, faultWhere, fieldFault, fieldAt, fieldsFrom, walkAll, two, field}
+pub use Rattle.fields.specs.Files.{tagOk, longOk, Field, hasTag, contentOf, addField, Walk, walk, allThere, headLong, lastTag, faultWhere, faultBy, fieldFault, fieldAt, fieldsBy, fieldsFrom, walkBy, walkAll, oldWalk, two, field}
 
 -- a plate list: its walk, then the plate
 abbrev pub plateIn : List Field → Plate

@@ -13,15 +13,9 @@ use Rattle.plates.specs.Shapes.{meets, anglesOk, postsOk, facesOk, bends
 use Rattle.plates.specs.Files.{Field, hasTag, contentOf, walkAll, listFault, plateOf, shapeBytes}
 use Rattle.plates.specs.Claims as C
 pub use Rattle.fields.specs.Says.{word}
-
-abbrev pub over : List ℕ → List ℕ → List ℕ
-over xs ys = xs ++ drop (length xs) ys
+pub use Rattle.fields.specs.Writing.{over, allBytes}
 
 -- shaping: 1 to 15, 16; the file of the best shape, whose angles and right bends are named
-abbrev pub allBytes : List ℕ → Bool
-allBytes [] = true
-allBytes (b ∷ bs) = ltb b 256 && allBytes bs
-
 abbrev pub remarkLong : List Field → ℕ
 remarkLong fs = pick (hasTag 6 fs) (3 + length (contentOf 6 fs)) 0
 

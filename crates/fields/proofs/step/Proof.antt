@@ -7,19 +7,19 @@ use Prim.Native.Nat.{ℕ, _+_, _*_, _≤_}
 use native.Mathlib.Omega.{arith}
 use lib.ListN.{length, getD}
 use borrow.Author.Needs.{needs}
-use borrow.Author.Tests.{not-true, not-false}
+use borrow.Author.Tests.{ltb-true, ltb-false, not-true, not-false}
 use Rattle.fields.specs.Files.{tagOk, headLong}
 use Rattle.fields.specs.Rules.{isTag, ruleOf, slotOf, keeps}
 use Rattle.fields.specs.declared.Front.the-variants.{Met}
 use Rattle.fields.proofs.Agree.{agrees, tag-from}
-use Rattle.fields.proofs.OneField.{tagged, front-is, front-1, front-2, front-3, front-4, front-5, front-met}
+use Rattle.fields.proofs.OneField.{tagged, front-is, front-1, front-2, front-3, front-29, front-4, front-5, front-met}
 use Rattle.fields.proofs.step.Statement.{statement}
 use Rattle.fields.proofs.step.Tie as tie
 
 returns : tie.Need-returns
 returns c =
     let a = c .before .before .args in
-    front-is (a .shape) (a .t3) (a .s .now) _ (front-1 (a .shape) (a .t3) (a .s .now) (omega arith))
+    front-is (a .shape) (a .t3) (a .low) (a .s .now) _ (front-1 (a .shape) (a .t3) (a .low) (a .s .now) (omega arith))
 
 shared-slice-read-tag : tie.Need-shared-slice-read-tag
 shared-slice-read-tag c = search needs
@@ -33,8 +33,8 @@ enum-told c = search needs
 returns-2 : tie.Need-returns-2
 returns-2 c =
     let a = c .before .before .before .before .before .before .args in
-    front-is (a .shape) (a .t3) (a .s .now) _
-    (front-2 (a .shape) (a .t3) (a .s .now) (omega arith) (sym (c .before .before .rule-of .ensures .rule) ∙ c .enum-told .given .1))
+    front-is (a .shape) (a .t3) (a .low) (a .s .now) _
+    (front-2 (a .shape) (a .t3) (a .low) (a .s .now) (omega arith) (sym (c .before .before .rule-of .ensures .rule) ∙ c .enum-told .given .1))
 
 -- past the second refusal: the rule is that of a tag of this file
 module _ (c : tie.At-match-keys2) where
@@ -91,6 +91,9 @@ module _ (c : tie.After-allows) where
   abbrev seen : List Bool
   seen = told .before .before .before .before .before .args .t3
 
+  abbrev low : ℕ
+  low = told .before .before .before .before .before .args .low
+
   abbrev long : ℕ
   long = 256 * c .before .before .before .wide .result + c .before .wide2 .result
 
@@ -112,7 +115,7 @@ module _ (c : tie.After-allows) where
 returns-3 : tie.Need-returns-3
 returns-3 c =
     let p = c .before in
-    front-is (k p) (seen p) (s p) _ (front-3 (k p) (seen p) (s p) (three p) (tag-here (told p)) (sym (met-here p) ∙ c .if2 .taken))
+    front-is (k p) (seen p) (low p) (s p) _ (front-3 (k p) (seen p) (low p) (s p) (three p) (tag-here (told p)) (sym (met-here p) ∙ c .if2 .taken))
 
 -- past the third: the tag is new
 new-here : (c : tie.Else2) → getD (seen (c .before)) (slotOf (k (c .before)) (getD (s (c .before)) 0 0)) false ≡ false
@@ -121,30 +124,40 @@ new-here c = sym (met-here (c .before)) ∙ c .if2 .left
 returns-4 : tie.Need-returns-4
 returns-4 c =
     let p = c .before .before in
-    front-is (k p) (seen p) (s p) _
-    (front-4 (k p) (seen p) (s p) (three p) (tag-here (told p)) (new-here (c .before)) (sym (kept-here p) ∙ not-true _ (c .if3 .taken)))
+    front-is (k p) (seen p) (low p) (s p) _
+    (front-29 (k p) (seen p) (low p) (s p) (three p) (tag-here (told p)) (new-here (c .before)) (ltb-true _ _ (c .if3 .taken)))
 
-add-if4 : tie.Need-add-if4
-add-if4 c =
-    let known = c .before .before .before .before .shared-slice-known4 .given in
-    omega (arith, known 1, known 2)
-
--- past the fourth: the length is as laid out
-long-ok-here : (c : tie.Else3) → let p = c .before .before in keeps (ruleOf (k p) (getD (s p) 0 0)) (headLong (s p)) ≡ true
-long-ok-here c = sym (kept-here (c .before .before)) ∙ not-false _ (c .if3 .left)
+-- past 29: the tag is not below the one before
+above-here : (c : tie.Else3) → low (c .before .before) ≤ getD (s (c .before .before)) 0 0
+above-here c = ltb-false _ _ (c .if3 .left)
 
 returns-5 : tie.Need-returns-5
 returns-5 c =
     let p = c .before .before .before in
-    front-is (k p) (seen p) (s p) _
-    (front-5 (k p) (seen p) (s p) (three p) (tag-here (told p)) (new-here (c .before .before)) (long-ok-here (c .before)) (omega (arith, long-here p)))
+    front-is (k p) (seen p) (low p) (s p) _
+    (front-4 (k p) (seen p) (low p) (s p) (three p) (tag-here (told p)) (new-here (c .before .before)) (above-here (c .before)) (sym (kept-here p) ∙ not-true _ (c .if4 .taken)))
+
+add-if5 : tie.Need-add-if5
+add-if5 c =
+    let known = c .before .before .before .before .before .shared-slice-known4 .given in
+    omega (arith, known 1, known 2)
+
+-- past the fourth: the length is as laid out
+long-ok-here : (c : tie.Else4) → let p = c .before .before .before in keeps (ruleOf (k p) (getD (s p) 0 0)) (headLong (s p)) ≡ true
+long-ok-here c = sym (kept-here (c .before .before .before)) ∙ not-false _ (c .if4 .left)
 
 returns-6 : tie.Need-returns-6
 returns-6 c =
-    let p = c .before .before .before in
-    front-is (k p) (seen p) (s p) _
+    let p = c .before .before .before .before in
+    front-is (k p) (seen p) (low p) (s p) _
+    (front-5 (k p) (seen p) (low p) (s p) (three p) (tag-here (told p)) (new-here (c .before .before .before)) (above-here (c .before .before)) (long-ok-here (c .before)) (omega (arith, long-here p)))
+
+returns-7 : tie.Need-returns-7
+returns-7 c =
+    let p = c .before .before .before .before in
+    front-is (k p) (seen p) (low p) (s p) _
     (ap₂ Met (slot-here p) (long-here p) ∙
-    front-met (k p) (seen p) (s p) (three p) (tag-here (told p)) (new-here (c .before .before)) (long-ok-here (c .before)) (omega (arith, long-here p)))
+    front-met (k p) (seen p) (low p) (s p) (three p) (tag-here (told p)) (new-here (c .before .before .before)) (above-here (c .before .before)) (long-ok-here (c .before)) (omega (arith, long-here p)))
 
 pub step-spec : {M : Type 1} → statement M
 step-spec =
@@ -166,6 +179,7 @@ step-spec =
     allows-requires
     returns-3
     returns-4
-    add-if4
     returns-5
-    returns-6)
+    add-if5
+    returns-6
+    returns-7)

@@ -3,7 +3,8 @@ use mathlib.Core.Path.{sym, ap, _∙_}
 use mathlib.Core.Bool.{true}
 use Prim.Native.Nat.{_+_, _-_, _≤_, _<_}
 use native.Mathlib.Omega.{arith}
-use lib.ListN.{length, set}
+use lib.ListN.{length, getD, set}
+use Rattle.finite.specs.Base.{pick}
 use Rattle.finite.proofs.Lent.{rest-lent}
 use Rattle.fields.specs.Rules.{frontOf}
 use borrow.Author.Needs.{needs}
@@ -12,16 +13,19 @@ use Rattle.fields.proofs.walk.Statement.{statement}
 use Rattle.fields.proofs.walk.Tie as tie
 
 abbrev Inv-loop : tie.InvT-loop
-Inv-loop s shape at₀ long₀ seen₀ next₀ at long seen next = Going shape s at long seen next
+Inv-loop s shape in-order at₀ long₀ seen₀ low₀ next₀ at long seen low next = Going in-order shape s at long seen low next
 
 abbrev μ-loop : tie.MeasureT-loop
-μ-loop s shape at₀ long₀ seen₀ next₀ at long seen next = length s - next
+μ-loop s shape in-order at₀ long₀ seen₀ low₀ next₀ at long seen low next = length s - next
 
 loop-holds : tie.Need-loop-holds Inv-loop μ-loop
-loop-holds c = going-start _ _
+loop-holds c = going-start _ _ _
 
 sub-loop : tie.Need-sub-loop Inv-loop μ-loop
 sub-loop c = omega arith
+
+shared-slice-read-tag : tie.Need-shared-slice-read-tag Inv-loop μ-loop
+shared-slice-read-tag c = omega arith
 
 sub-step : tie.Need-sub-step Inv-loop μ-loop
 sub-step c = omega arith
@@ -43,27 +47,27 @@ refused-requires c κs = search needs
 
 returns : tie.Need-returns Inv-loop μ-loop
 returns c =
-    let a = c .before .before .before .before .before .before .before .before .before .args in
-    let w = c .before .before .before .before .before .before .before .loop in
+    let a = c .before .before .before .before .before .before .before .before .before .before .args in
+    let w = c .before .before .before .before .before .before .before .before .loop in
     rw (c .refused .ensures)
-    (going-fault (a .shape) (a .s .now) (w .at) (w .long) (w .seen) (w .next) (w .inv) (omega (arith, c .before .before .before .before .before .before .loop-test .taken)) (c .before .before .front .given .0 .0)
-    (sym (c .before .before .front .given .1) ∙ c .before .before .before .before .step .ensures .front ∙ ap (frontOf (a .shape) (w .seen)) (rest-lent (a .s .now) (w .next))))
+    (going-fault (a .in-order) (a .shape) (a .s .now) (w .at) (w .long) (w .seen) (w .low) (w .next) (w .inv) (omega (arith, c .before .before .before .before .before .before .before .loop-test .taken)) (c .before .before .front .given .0 .0)
+    (sym (c .before .before .front .given .1) ∙ c .before .before .before .before .step .ensures .front ∙ ap (frontOf (a .shape) (w .seen) (w .low)) (rest-lent (a .s .now) (w .next))))
 
 enum-known-front-2 : tie.Need-enum-known-front-2 Inv-loop μ-loop
 enum-known-front-2 c = search needs
 
 -- the field met
 met-here : (c : tie.After-known-told2 Inv-loop μ-loop) →
-    let a = c .before .before .before .before .before .before .before .before .args in
-    let w = c .before .before .before .before .before .before .loop in
+    let a = c .before .before .before .before .before .before .before .before .before .args in
+    let w = c .before .before .before .before .before .before .before .loop in
     let i = c .before .front2 .given .0 .0 in
     let n = c .before .front2 .given .0 .1 .0 in
-    (i < 6) × (w .next + 3 + n ≤ length (a .s .now)) × Going (a .shape) (a .s .now) (set (w .at) i (w .next + 3)) (set (w .long) i n) (set (w .seen) i true) (w .next + 3 + n)
+    (i < 6) × (w .next + 3 + n ≤ length (a .s .now)) × Going (a .in-order) (a .shape) (a .s .now) (set (w .at) i (w .next + 3)) (set (w .long) i n) (set (w .seen) i true) (pick (a .in-order) (getD (a .s .now) (w .next) 0) 0) (w .next + 3 + n)
 met-here c =
-    let a = c .before .before .before .before .before .before .before .before .args in
-    let w = c .before .before .before .before .before .before .loop in
-    going-met (a .shape) (a .s .now) (w .at) (w .long) (w .seen) (w .next) (w .inv) (omega (arith, c .before .before .before .before .before .loop-test .taken)) (c .before .front2 .given .0 .0) (c .before .front2 .given .0 .1 .0)
-    (sym (c .before .front2 .given .1) ∙ c .before .before .before .step .ensures .front ∙ ap (frontOf (a .shape) (w .seen)) (rest-lent (a .s .now) (w .next)))
+    let a = c .before .before .before .before .before .before .before .before .before .args in
+    let w = c .before .before .before .before .before .before .before .loop in
+    going-met (a .in-order) (a .shape) (a .s .now) (w .at) (w .long) (w .seen) (w .low) (w .next) (w .inv) (omega (arith, c .before .before .before .before .before .before .loop-test .taken)) (c .before .front2 .given .0 .0) (c .before .front2 .given .0 .1 .0)
+    (sym (c .before .front2 .given .1) ∙ c .before .before .before .step .ensures .front ∙ ap (frontOf (a .shape) (w .seen) (w .low)) (rest-lent (a .s .now) (w .next)))
 
 add-at : tie.Need-add-at Inv-loop μ-loop
 add-at c = omega (arith, met-here c .1)
@@ -83,17 +87,20 @@ array-write-long c = met-here c .0
 array-write-seen : tie.Need-array-write-seen Inv-loop μ-loop
 array-write-seen c = met-here c .0
 
+lowest-after-requires : tie.Need-lowest-after-requires Inv-loop μ-loop
+lowest-after-requires c κs = search needs
+
 add-next : tie.Need-add-next Inv-loop μ-loop
-add-next c = omega (arith, met-here c .1)
+add-next c = omega (arith, met-here (c .before) .1)
 
 add-next-2 : tie.Need-add-next-2 Inv-loop μ-loop
-add-next-2 c = omega (arith, met-here c .1)
+add-next-2 c = omega (arith, met-here (c .before) .1)
 
 loop-less : tie.Need-loop-less Inv-loop μ-loop
-loop-less c = omega (arith, met-here c .1)
+loop-less c = omega (arith, met-here (c .before) .1)
 
 loop-again : tie.Need-loop-again Inv-loop μ-loop
-loop-again c = met-here c .2
+loop-again c = rw (c .lowest-after .ensures) (met-here (c .before) .2)
 
 all-seen-requires : tie.Need-all-seen-requires Inv-loop μ-loop
 all-seen-requires c κs = search needs
@@ -105,7 +112,7 @@ returns-2 : tie.Need-returns-2 Inv-loop μ-loop
 returns-2 c =
     let a = c .before .before .before .before .before .args in
     let w = c .before .before .before .loop in
-    going-done (a .shape) (a .s .now) (w .at) (w .long) (w .seen) (w .next) (w .inv) (omega (arith, c .before .before .loop-test .left))
+    going-done (a .in-order) (a .shape) (a .s .now) (w .at) (w .long) (w .seen) (w .low) (w .next) (w .inv) (omega (arith, c .before .before .loop-test .left))
     (sym (c .before .all-seen .ensures) ∙ c .if1 .taken)
 
 returns-3 : tie.Need-returns-3 Inv-loop μ-loop
@@ -113,7 +120,7 @@ returns-3 c =
     let a = c .before .before .before .before .before .before .args in
     let w = c .before .before .before .before .loop in
     rw (c .refused2 .ensures)
-    (going-short (a .shape) (a .s .now) (w .at) (w .long) (w .seen) (w .next) (w .inv) (omega (arith, c .before .before .before .loop-test .left))
+    (going-short (a .in-order) (a .shape) (a .s .now) (w .at) (w .long) (w .seen) (w .low) (w .next) (w .inv) (omega (arith, c .before .before .before .loop-test .left))
     (sym (c .before .before .all-seen .ensures) ∙ c .before .if1 .left))
 
 pub walk-spec : {M : Type 1} → statement M
@@ -124,6 +131,7 @@ walk-spec =
     μ-loop
     loop-holds
     sub-loop
+    shared-slice-read-tag
     sub-step
     part-step-start
     part-step-end
@@ -138,6 +146,7 @@ walk-spec =
     mul-long
     array-write-long
     array-write-seen
+    lowest-after-requires
     add-next
     add-next-2
     loop-less
