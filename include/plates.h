@@ -28,10 +28,11 @@ extern "C" {
 enum plates_refusal {
     PLATES_ACCEPTED = 0,
 
-    /* field walk: all five at one field before the next field */
+    /* field walk: 1, 2, 3, 29, 4, 5, all at one field before the next field */
     PLATES_FIELD_CUT = 1,          /* one or two bytes remain */
     PLATES_UNKNOWN_TAG = 2,        /* tag not of this file */
     PLATES_REPEATED_TAG = 3,       /* tag met before */
+    PLATES_TAG_ORDER = 29,         /* tag below the previous one; not in older files */
     PLATES_FIELD_LENGTH = 4,       /* length not as laid out */
     PLATES_CONTENT_CUT = 5,        /* content passes the end */
     PLATES_FIELD_ABSENT = 6,       /* a field other than the remark is absent */
@@ -75,8 +76,8 @@ enum plates_refusal {
  * *long_ is 16 + 4 * strips, plus 3 and the remark's length if there is one;
  * 611 bytes are always enough.
  *
- * 1 to 15: the plate list is refused. 16: out_len is less than the length of
- * the shape. On a refusal `out` is unchanged; *long_ and *bends are 0. */
+ * 1 to 15, 29: the plate list is refused. 16: out_len is less than the length
+ * of the shape. On a refusal `out` is unchanged; *long_ and *bends are 0. */
 uint8_t plates_write_shape(const uint8_t *list, size_t list_len,
                            uint8_t *out, size_t out_len,
                            uint32_t *long_, uint32_t *bends);
@@ -87,8 +88,9 @@ uint8_t plates_write_shape(const uint8_t *list, size_t list_len,
  * total bends of all shapes of the plate, and *ours says whether its angles
  * and right bends are those that plates_write_shape writes.
  *
- * 1 to 15: the plate list is refused. 1 to 6 also: the shape file is refused,
- * after the plate list was accepted. 17 to 22: as in the table. Never 16.
+ * 1 to 15, 29: the plate list is refused. 1 to 6 and 29 also: the shape file
+ * is refused, after the plate list was accepted. 17 to 22: as in the table.
+ * Never 16.
  * On a refusal *total and *fewest are 0 and *ours is false. */
 uint8_t plates_check_shape(const uint8_t *list, size_t list_len,
                            const uint8_t *shape, size_t shape_len,
@@ -99,13 +101,27 @@ uint8_t plates_check_shape(const uint8_t *list, size_t list_len,
  * 0: the first *long_ bytes of `out` are the text and the bytes behind them
  * are as before. For an accepted list the text has the lines "revision R",
  * "bends B" and, for each dart, "dart D right R angle A"; for a list refused
- * with N (1 to 15) it has the one line "refused N". Each line ends with a
+ * with N (1 to 15, 29) it has the one line "refused N". Each line ends with a
  * line feed, and there is no null byte.
  *
  * 16: out_len is less than the length of the text; `out` is unchanged and
  * *long_ is 0. No other number is returned. */
 uint8_t plates_write_listing(const uint8_t *list, size_t list_len,
                              uint8_t *out, size_t out_len, size_t *long_);
+
+/* Writes an older plate list or shape file, whose fields may stand in any
+ * order, to the front of `out` with its fields in tag order. A first byte of
+ * 0x10 or above means a shape file, any other, and none, a plate list.
+ *
+ * 0: the first *long_ bytes of `out` are the file in order, as long as before
+ * and with the same fields, and the bytes behind them are as before. A file
+ * that is in order comes back unchanged.
+ *
+ * 1 to 6: the file is refused, with no regard to the order of its tags. 16:
+ * out_len is less than file_len. On a refusal `out` is unchanged and *long_
+ * is 0. */
+uint8_t plates_order_fields(const uint8_t *file, size_t file_len,
+                            uint8_t *out, size_t out_len, size_t *long_);
 
 /* Gives the current revision of a model from a book of entries. An entry is a
  * model, a revision and the revision replaced, two bytes each, high byte

@@ -4,8 +4,9 @@
 //! list is bytes in fields: one-byte tag, two-byte length (high byte first),
 //! content. [`write_shape`] writes the best shape of a plate list,
 //! [`check_shape`] gives a verdict on a shape file, and [`write_listing`]
-//! writes the best shape as text. [`current_revision`] finds the current
-//! revision of a model in a book of entries.
+//! writes the best shape as text. [`order_fields`] puts the fields of an older
+//! file in tag order. [`current_revision`] finds the current revision of a
+//! model in a book of entries.
 //!
 //! ```
 //! // Two posts joined by two strips.
@@ -71,8 +72,8 @@ pub struct Verdict {
 /// The bytes of `out` behind the shape stay as they are.
 ///
 /// # Errors
-/// Refusals 1 to 15 for the plate list, and [`Refusal::MemoryShort`] where
-/// `out` is shorter than the shape. On a refusal `out` is unchanged.
+/// Refusals 1 to 15 and 29 for the plate list, and [`Refusal::MemoryShort`]
+/// where `out` is shorter than the shape. On a refusal `out` is unchanged.
 ///
 /// ```
 /// use plates::{write_shape, Refusal};
@@ -109,8 +110,8 @@ pub fn write_shape(list: &[u8], out: &mut [u8]) -> Result<Shape, Refusal> {
 /// Gives a verdict on a shape file against a plate list.
 ///
 /// # Errors
-/// Refusals 1 to 15 for the plate list; then 1 to 6 and 17 to 22 for the shape
-/// file. Never 16.
+/// Refusals 1 to 15 and 29 for the plate list; then 1 to 6, 29 and 17 to 22 for
+/// the shape file. Never 16.
 ///
 /// ```
 /// use plates::{check_shape, Refusal, Verdict};
@@ -199,6 +200,53 @@ pub fn write_listing(list: &[u8], out: &mut [u8]) -> Result<usize, Refusal> {
     accepted(number).map(|()| length)
 }
 
+/// Writes an older plate list or shape file, whose fields may stand in any
+/// order, to the front of `out` with its fields in tag order, and gives its
+/// length, which is that of `file`.
+///
+/// A first byte of 0x10 or above means a shape file, any other, and none, a
+/// plate list. The bytes of `out` behind the file stay as they are. A file
+/// that is in order comes back unchanged.
+///
+/// # Errors
+/// Refusals 1 to 6, and [`Refusal::MemoryShort`] where `out` is shorter than
+/// `file`. On a refusal `out` is unchanged.
+///
+/// ```
+/// use plates::{order_fields, Refusal};
+///
+/// let older = [
+///     0x12, 0, 2, 0, 0, 0x11, 0, 2, 0, 7, //
+///     0x14, 0, 2, 0, 0, 0x13, 0, 2, 4, 4,
+/// ];
+/// let mut out = [0xee; 21];
+/// assert_eq!(order_fields(&older, &mut out[..19]), Err(Refusal::MemoryShort));
+/// assert_eq!(out, [0xee; 21]);
+/// assert_eq!(order_fields(&older, &mut out), Ok(20));
+/// assert_eq!(
+///     out,
+///     [
+///         0x11, 0, 2, 0, 7, 0x12, 0, 2, 0, 0, //
+///         0x13, 0, 2, 4, 4, 0x14, 0, 2, 0, 0, 0xee,
+///     ]
+/// );
+/// ```
+pub fn order_fields(file: &[u8], out: &mut [u8]) -> Result<usize, Refusal> {
+    let mut length = 0;
+    // SAFETY: each pointer comes from a reference or a slice, with the slice's
+    // own length, and `out` and the length overlap nothing.
+    let number = unsafe {
+        calls::plates_order_fields(
+            file.as_ptr(),
+            file.len(),
+            out.as_mut_ptr(),
+            out.len(),
+            &mut length,
+        )
+    };
+    accepted(number).map(|()| length)
+}
+
 /// Gives the current revision of a model from a book of entries, or none where
 /// the model is not in the book.
 ///
@@ -268,6 +316,13 @@ mod calls {
             out_len: usize,
             long: &mut usize,
         ) -> u8;
+        pub fn plates_order_fields(
+            file: *const u8,
+            file_len: usize,
+            out: *mut u8,
+            out_len: usize,
+            long: &mut usize,
+        ) -> u8;
         pub fn plates_current_revision(
             book: *const u8,
             book_len: usize,
@@ -324,6 +379,8 @@ pub enum Refusal {
     TurnsOfFace = 21,
     /// The total differs from the sum of the right bends.
     TotalDiffers = 22,
+    /// A tag is below the previous one.
+    TagOrder = 29,
     /// The last entry of a book has under six bytes.
     EntryCut = 40,
     /// An entry's revision is 0, or already listed for its model.
@@ -335,7 +392,7 @@ pub enum Refusal {
 
 impl Refusal {
     /// Every refusal, by rising number.
-    pub const ALL: [Refusal; 24] = [
+    pub const ALL: [Refusal; 25] = [
         Refusal::FieldCut,
         Refusal::UnknownTag,
         Refusal::RepeatedTag,
@@ -357,6 +414,7 @@ impl Refusal {
         Refusal::AnglesAtPost,
         Refusal::TurnsOfFace,
         Refusal::TotalDiffers,
+        Refusal::TagOrder,
         Refusal::EntryCut,
         Refusal::RevisionListed,
         Refusal::NotCurrent,
@@ -407,6 +465,7 @@ impl Refusal {
             Refusal::AnglesAtPost => "the angles round a post do not add to a full turn",
             Refusal::TurnsOfFace => "the boundary of a face does not close",
             Refusal::TotalDiffers => "the total given is not the number of bends in the shape",
+            Refusal::TagOrder => "the fields are not in the order of their tags",
             Refusal::EntryCut => "the book ends in the middle of an entry",
             Refusal::RevisionListed => "an entry's revision is 0 or already listed for its model",
             Refusal::NotCurrent => {
@@ -432,7 +491,7 @@ mod tests {
     fn numbers_and_refusals_agree() {
         for number in 0..=255 {
             let refusal = Refusal::from_number(number);
-            let given = matches!(number, 0..=9 | 11..=22 | 40..=42);
+            let given = matches!(number, 0..=9 | 11..=22 | 29 | 40..=42);
             assert_eq!(refusal.map_or(0, Refusal::number) == number, given);
         }
     }

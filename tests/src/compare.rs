@@ -1,7 +1,7 @@
 //! Calls of the library against the independent implementation. A difference
 //! panics with the bytes in hexadecimal.
 
-use crate::files::{listing_of, shape_of, verdict_of, Solver, Verdict};
+use crate::files::{in_order, listing_of, shape_of, verdict_of, Solver, Verdict};
 
 /// Bytes as hexadecimal.
 pub fn hex(bytes: &[u8]) -> String {
@@ -104,4 +104,31 @@ pub fn listing(list: &[u8], best: Solver) {
             hex(&memory_after(lent, written)),
         );
     }
+}
+
+/// Compares putting an older file in order, for lent memory of several
+/// lengths. Gives the file in order, or its refusal.
+pub fn ordering(file: &[u8]) -> Result<Vec<u8>, u8> {
+    let expected = in_order(file);
+    let length = expected.as_ref().map_or(40, Vec::len);
+    for lent in lengths_to_lend(length) {
+        let wanted = match &expected {
+            Err(number) => Err(*number),
+            Ok(_) if lent < length => Err(16),
+            Ok(_) => Ok(length),
+        };
+        let written = match (&expected, wanted) {
+            (Ok(ordered), Ok(_)) => &ordered[..],
+            _ => &[],
+        };
+        let mut out = pattern(lent);
+        let given = plates::order_fields(file, &mut out).map_err(plates::Refusal::number);
+        assert!(
+            given == wanted && out == memory_after(lent, written),
+            "order_fields: file {}\nlent {lent} bytes\ngiven {given:?}\nwanted {wanted:?}\nmemory {}",
+            hex(file),
+            hex(&out),
+        );
+    }
+    expected
 }

@@ -1,4 +1,5 @@
-//! Files of document 01: fields, refusals 1 to 22, shape files, listings.
+//! Files of document 01 and request E7: fields, refusals 1 to 22 and 29, shape
+//! files, listings, older files put in order.
 //! A refusal is its number.
 
 use crate::plate::{Plate, Shape};
@@ -46,9 +47,17 @@ fn shape_layout(tag: u8, length: usize) -> Option<bool> {
     })
 }
 
-/// The field walk, 1 to 5.
-fn walk(file: &[u8], layout: Layout) -> Result<BTreeMap<u8, Vec<u8>>, u8> {
+/// Whether the tags of a file must ascend.
+#[derive(Clone, Copy, PartialEq, Eq)]
+enum Order {
+    Rising,
+    Any,
+}
+
+/// The field walk, 1 to 5 and 29.
+fn walk(file: &[u8], layout: Layout, order: Order) -> Result<BTreeMap<u8, Vec<u8>>, u8> {
     let mut fields = BTreeMap::new();
+    let mut previous = None;
     let mut at = 0;
     while at < file.len() {
         if file.len() - at < 3 {
@@ -60,6 +69,10 @@ fn walk(file: &[u8], layout: Layout) -> Result<BTreeMap<u8, Vec<u8>>, u8> {
         if fields.contains_key(&tag) {
             return Err(3);
         }
+        if order == Order::Rising && previous.is_some_and(|before| tag < before) {
+            return Err(29);
+        }
+        previous = Some(tag);
         if !as_laid_out {
             return Err(4);
         }
@@ -75,8 +88,9 @@ fn read_fields(
     file: &[u8],
     layout: Layout,
     needed: std::ops::RangeInclusive<u8>,
+    order: Order,
 ) -> Result<BTreeMap<u8, Vec<u8>>, u8> {
-    let fields = walk(file, layout)?;
+    let fields = walk(file, layout, order)?;
     if needed.into_iter().all(|tag| fields.contains_key(&tag)) {
         Ok(fields)
     } else {
@@ -92,9 +106,22 @@ fn refuse_if(condition: bool, number: u8) -> Result<(), u8> {
     }
 }
 
-/// Reads a plate list: 1 to 15.
+/// An older file, in any order, with its fields in tag order: 1 to 6.
+pub fn in_order(file: &[u8]) -> Result<Vec<u8>, u8> {
+    let fields = match file.first() {
+        Some(0x10..) => read_fields(file, shape_layout, 0x11..=0x14, Order::Any)?,
+        _ => read_fields(file, list_layout, 0x01..=0x05, Order::Any)?,
+    };
+    let mut ordered = Vec::new();
+    for (tag, content) in &fields {
+        push_field(&mut ordered, *tag, content);
+    }
+    Ok(ordered)
+}
+
+/// Reads a plate list: 1 to 15 and 29.
 pub fn read_list(file: &[u8]) -> Result<List, u8> {
-    let mut fields = read_fields(file, list_layout, 0x01..=0x05)?;
+    let mut fields = read_fields(file, list_layout, 0x01..=0x05, Order::Rising)?;
     let posts = usize::from(fields[&0x02][0]);
     refuse_if(posts == 0 || posts > 64, 7)?;
     let mut plate = Plate {
@@ -208,11 +235,12 @@ pub fn shape_of(file: &[u8], best: Solver) -> Result<(Vec<u8>, u32), u8> {
     Ok((shape_bytes(&list, &shape), shape.bends()))
 }
 
-/// The verdict on a shape file: 1 to 15 for the list, then 1 to 6 and 17 to 22.
+/// The verdict on a shape file: 1 to 15 and 29 for the list, then 1 to 6, 29
+/// and 17 to 22.
 pub fn verdict_of(file: &[u8], shape_file: &[u8], best: Solver) -> Result<Verdict, u8> {
     let list = read_list(file)?;
     let plate = &list.plate;
-    let fields = read_fields(shape_file, shape_layout, 0x11..=0x14)?;
+    let fields = read_fields(shape_file, shape_layout, 0x11..=0x14, Order::Rising)?;
     let shape = Shape {
         angles: fields[&0x13].iter().map(|&a| u32::from(a)).collect(),
         rights: fields[&0x14].iter().map(|&r| u32::from(r)).collect(),

@@ -1,6 +1,6 @@
 //! Random plates from a seed.
 
-use crate::files::list_fields;
+use crate::files::list_bytes;
 use crate::plate::{twin, Plate};
 
 /// A small generator of pseudo-random numbers (splitmix64).
@@ -285,16 +285,11 @@ pub fn looped_ring(posts: usize) -> Plate {
     }
 }
 
-/// A plate list with a random revision, perhaps a remark, and its fields in
-/// random order.
+/// A plate list with a random revision and perhaps a remark.
 pub fn list_of(plate: &Plate, random: &mut Random) -> Vec<u8> {
     let revision = random.draw() as u16;
     let length = random.below(81);
     let remark = random.bytes(length);
     let remark = (random.below(2) == 0).then_some(&remark[..]);
-    let mut fields = list_fields(plate, revision, remark);
-    if random.below(2) == 0 {
-        random.shuffle(&mut fields);
-    }
-    fields.concat()
+    list_bytes(plate, revision, remark)
 }

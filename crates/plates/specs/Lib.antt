@@ -10,6 +10,7 @@ pub mod Encodes
 pub mod Checks
 pub mod Listing
 pub mod Answers
+pub mod Ordering
 pub mod Loops
 pub mod Tried
 pub mod Books

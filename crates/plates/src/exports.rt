@@ -1,13 +1,15 @@
 //! The library for C and Rust: what a struct or an enum answers is a number returned and numbers behind references.
 ghost use Rattle.plates.specs.Says.{ShapeSays, CheckSays};
 ghost use Rattle.plates.specs.Listing.{ListingSays};
-ghost use Rattle.plates.specs.Answers.{shaped, verdict, listed};
+ghost use Rattle.plates.specs.Answers.{shaped, verdict, listed, ordered};
+ghost use Rattle.plates.specs.Ordering.{OrderSays};
 ghost use Rattle.plates.specs.Books.{RevisionIs};
 use crate::check_shape;
 use crate::write_listing;
 use crate::write_shape;
 use book::Answer;
 use book::current_revision;
+use fields::ordering::order_fields;
 
 // Shaping: the refusal's number, or 0 with the shape at the front of `out`, its length and its bends.
 #[no_mangle]
@@ -51,6 +53,16 @@ pub extern "C" fn plates_write_listing(list: &[u8], out: &mut [u8], long: &mut u
     let l = write_listing(list, out);
     *long = l.long;
     l.number
+}
+
+// Putting an older file in tag order: the old walk's refusal or 16, or 0 with the file at the front of `out` and its length.
+#[no_mangle]
+pub extern "C" fn plates_order_fields(file: &[u8], out: &mut [u8], long: &mut usize) -> u8
+    ensures { λ r. ⌜ OrderSays (now (file .entry)) (now (out .entry)) (now (out .exit)) (ordered r (now (long .exit))) ⌝ }
+{
+    let o = order_fields(file, out);
+    *long = o.long;
+    o.number
 }
 
 // Books: the refusal's number, or 0 with the current revision of the model, 0 where the model is not there.

@@ -210,7 +210,7 @@ fn walk_refusals() {
     );
 }
 
-// Several faults in the walk: all five are tried at one field before the next.
+// Several faults in the walk: all six are tried at one field before the next.
 fn first_in_walk() {
     // 1 comes before 2.
     shape(b"other tag and two bytes", b"\x07\x00");
@@ -220,6 +220,11 @@ fn first_in_walk() {
     shape(
         b"revision twice, second too long",
         b"\x01\x00\x02\x00\x07\x01\x00\x09\x00",
+    );
+    // 29 comes before 4 and 5.
+    shape(
+        b"outer dart, then posts too long",
+        b"\x05\x00\x01\x01\x02\x00\x09",
     );
     // 4 comes before 5.
     shape(b"odd strips, cut", b"\x03\x00\x03\x00");
@@ -354,7 +359,7 @@ fn copies() {
         b"empty remark",
         b"\x01\x00\x02\x12\x34\x02\x00\x01\x02\x03\x00\x04\x00\x01\x00\x01\x04\x00\x04\x00\x02\x01\x03\x05\x00\x01\x01\x06\x00\x00",
     );
-    // The fields of P1 in reversed order: the same shape.
+    // The fields of P1 in reversed order.
     shape(
         b"reversed",
         b"\x05\x00\x01\x01\x04\x00\x04\x00\x02\x01\x03\x03\x00\x04\x00\x01\x00\x01\x02\x00\x01\x02\x01\x00\x02\x00\x07",
@@ -434,7 +439,12 @@ fn sound_p1() {
         b"P1, angle 2 inside",
         b"\x11\x00\x02\x00\x07\x12\x00\x02\x00\x03\x13\x00\x04\x02\x03\x02\x01\x14\x00\x04\x00\x00\x00\x03",
     );
-    // The remark and the order of the fields make no difference.
+    // The remark makes no difference.
+    check_p1(
+        b"P1, with remark",
+        b"\x11\x00\x02\x00\x07\x12\x00\x02\x00\x02\x13\x00\x04\x01\x03\x03\x01\x14\x00\x04\x00\x00\x00\x02\x15\x00\x01\x41",
+    );
+    // The fields in reversed order.
     check_p1(
         b"P1 reversed, with remark",
         b"\x15\x00\x01\x41\x14\x00\x04\x00\x00\x00\x02\x13\x00\x04\x01\x03\x03\x01\x12\x00\x02\x00\x02\x11\x00\x02\x00\x07",

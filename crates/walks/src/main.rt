@@ -1,6 +1,8 @@
-//! Walks short files, with the number of each; then writes fields and shows their bytes.
+//! Walks short files, with the number of each; puts older ones in order; then writes fields and shows their bytes.
 ghost use Rattle.io.specs.Counts.{Counts};
+use fields::ordering::order_fields;
 use fields::walk_list;
+use fields::walk_older;
 use fields::walk_shape;
 use fields::writing::write_field;
 use libc::STDOUT_FILENO;
@@ -22,6 +24,12 @@ fn list(label: &[u8], s: &[u8]) {
 fn shape(label: &[u8], s: &[u8]) {
     let f = walk_shape(s);
     show(b"shape ", label, f.number);
+}
+
+// An older file of either kind, in any order.
+fn older(label: &[u8], s: &[u8], is_shape: bool) {
+    let f = walk_older(s, is_shape);
+    show(b"older ", label, f.number);
 }
 
 // Writes a field of `long` zeros where there is room for it, and gives the place behind it.
@@ -108,12 +116,12 @@ fn list_tags() {
         b"02 twice, second too long",
         b"\x02\x00\x01\x02\x02\x00\x09\x02",
     );
-    // Fields may stand in any order.
+    // Tags ascend.
     list(
         b"reversed",
         b"\x05\x00\x01\x01\x04\x00\x04\x00\x02\x01\x03\x03\x00\x04\x00\x01\x00\x01\x02\x00\x01\x02\x01\x00\x02\x00\x07",
     );
-    // The remark in front of all others.
+    // The remark in front of all others: the second field is refused.
     list(
         b"remark first",
         b"\x06\x00\x01\x41\x01\x00\x02\x00\x07\x02\x00\x01\x02\x03\x00\x04\x00\x01\x00\x01\x04\x00\x04\x00\x02\x01\x03\x05\x00\x01\x01",
@@ -201,8 +209,35 @@ fn list_empty() {
     // No strips is no refusal of the walk.
     list(
         b"empty 03 and 04",
-        b"\x03\x00\x00\x04\x00\x00\x01\x00\x02\x00\x07\x02\x00\x01\x02\x05\x00\x01\x01",
+        b"\x01\x00\x02\x00\x07\x02\x00\x01\x02\x03\x00\x00\x04\x00\x00\x05\x00\x01\x01",
     );
+}
+
+// A tag below the previous one.
+fn list_below() {
+    // 2 comes before 29.
+    list(b"05, then 00", b"\x05\x00\x01\x01\x00\x00\x00");
+    // 3 comes before 29.
+    list(
+        b"02, 05, 02",
+        b"\x02\x00\x01\x02\x05\x00\x01\x01\x02\x00\x01\x02",
+    );
+    // 29 comes before 4.
+    list(b"05, then 02 of 2", b"\x05\x00\x01\x01\x02\x00\x02\x02\x02");
+    // 29 comes before 5.
+    list(b"05, then 04 cut", b"\x05\x00\x01\x01\x04\x00\x04\x00");
+    // 29 at a field comes before 1 behind it.
+    list(
+        b"02, 01, one byte",
+        b"\x02\x00\x01\x02\x01\x00\x02\x00\x07\x03",
+    );
+    // The previous tag counts, not the highest: 03 is below 04.
+    list(
+        b"04, 03",
+        b"\x01\x00\x02\x00\x07\x02\x00\x01\x02\x04\x00\x00\x03\x00\x00\x05\x00\x01\x01",
+    );
+    // 4 at a field before it counts first.
+    list(b"05 of 2, then 02", b"\x05\x00\x02\x01\x01\x02\x00\x01\x02");
 }
 
 // Two faults in one list: the earlier place counts.
@@ -283,7 +318,7 @@ fn shape_tags() {
         b"11 twice, second too short",
         b"\x11\x00\x02\x00\x07\x11\x00\x01\x07",
     );
-    // Fields may stand in any order, the remark in front.
+    // Tags ascend.
     shape(
         b"reversed",
         b"\x15\x00\x01\x41\x14\x00\x04\x00\x00\x00\x02\x13\x00\x04\x01\x03\x03\x01\x12\x00\x02\x00\x02\x11\x00\x02\x00\x07",
@@ -350,6 +385,43 @@ fn long_shapes() {
     long_shape(b"255 256 80", 255, 256, 80);
 }
 
+// Older files: the walk in any order.
+fn older_files() {
+    older(
+        b"list reversed",
+        b"\x05\x00\x01\x01\x04\x00\x04\x00\x02\x01\x03\x03\x00\x04\x00\x01\x00\x01\x02\x00\x01\x02\x01\x00\x02\x00\x07",
+        false,
+    );
+    older(
+        b"shape reversed",
+        b"\x15\x00\x01\x41\x14\x00\x04\x00\x00\x00\x02\x13\x00\x04\x01\x03\x03\x01\x12\x00\x02\x00\x02\x11\x00\x02\x00\x07",
+        true,
+    );
+    // Every other number is as before: 2, 3, 4, 5, 1.
+    older(b"05, then 00", b"\x05\x00\x01\x01\x00\x00\x00", false);
+    older(
+        b"02, 05, 02",
+        b"\x02\x00\x01\x02\x05\x00\x01\x01\x02\x00\x01\x02",
+        false,
+    );
+    older(
+        b"05, then 02 of 2",
+        b"\x05\x00\x01\x01\x02\x00\x02\x02\x02",
+        false,
+    );
+    older(
+        b"05, then 04 cut",
+        b"\x05\x00\x01\x01\x04\x00\x04\x00",
+        false,
+    );
+    older(
+        b"02, 01, one byte",
+        b"\x02\x00\x01\x02\x01\x00\x02\x00\x07\x03",
+        false,
+    );
+    older(b"empty", b"", false);
+}
+
 // Writes bytes on a line, in hexadecimal.
 fn show_bytes(s: &[u8]) {
     let mut i = 0;
@@ -361,6 +433,41 @@ fn show_bytes(s: &[u8]) {
         i += 1;
     }
     io::write_all(STDOUT_FILENO, b"\n");
+}
+
+// Puts an older file in order, and shows the number and the bytes of the memory lent.
+fn order_into(label: &[u8], s: &[u8], out: &mut [u8]) {
+    let ordered = order_fields(s, out);
+    show(b"order ", label, ordered.number);
+    show_bytes(out);
+}
+
+// Files put in order; a refusal changes no byte.
+fn ordered_files() {
+    let mut some = [0xeeu8; 30];
+    // The remark is kept.
+    order_into(
+        b"list reversed, with remark",
+        b"\x06\x00\x00\x05\x00\x01\x01\x04\x00\x04\x00\x02\x01\x03\x03\x00\x04\x00\x01\x00\x01\x02\x00\x01\x02\x01\x00\x02\x00\x07",
+        &mut some,
+    );
+    let mut other = [0xeeu8; 24];
+    order_into(
+        b"shape, 14 and 12 exchanged",
+        b"\x11\x00\x02\x00\x07\x14\x00\x02\x00\x00\x13\x00\x02\x04\x04\x12\x00\x02\x00\x00",
+        &mut other,
+    );
+    let mut few = [0xeeu8; 2];
+    // 16 comes last, and measures.
+    order_into(
+        b"too short",
+        b"\x05\x00\x01\x00\x04\x00\x00\x03\x00\x00\x02\x00\x01\x02\x01\x00\x02\x00\x07",
+        &mut few,
+    );
+    // A first byte of 10 hexadecimal means a shape file, of which it is no tag; 0F a plate list.
+    order_into(b"10", b"\x10\x00\x00", &mut few);
+    order_into(b"0F, cut", b"\x0f\x00", &mut few);
+    order_into(b"empty", b"", &mut few);
 }
 
 // Two fields, one behind the other; the bytes before and behind them stay.
@@ -387,12 +494,15 @@ fn main() {
     list_passes();
     list_absent();
     list_empty();
+    list_below();
     list_two();
     shape_ends();
     shape_tags();
     shape_lengths();
     long_lists();
     long_shapes();
+    older_files();
+    ordered_files();
     written();
     long_written();
 }
