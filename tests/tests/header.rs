@@ -81,3 +81,12 @@ fn c_program_gets_the_revisions() {
         model 9: 40 revision 0\n";
     assert_eq!(printed_by_c("book"), expected);
 }
+
+/// A shape file of one strip with its fields exchanged in pairs; then too
+/// little memory, a byte cut off, and no byte.
+#[test]
+fn c_program_gets_the_file_in_order() {
+    let expected = "0 length 20: 11 00 02 00 07 12 00 02 00 00 13 00 02 04 04 14 00 02 00 00\n\
+        16 length 0:\n5 length 0:\n6 length 0:\n";
+    assert_eq!(printed_by_c("older"), expected);
+}

@@ -1,12 +1,13 @@
 -- The walk in order takes just the runs of the walk in any order whose tags ascend, and refuses the others with 29. Assumes nothing.
 use mathlib.Core.Path.{_≡_, refl, sym, ap, subst, _∙_}
-use mathlib.Core.Bool.{Bool, true, false, _&&_}
+use mathlib.Core.Bool.{Bool, true, false, not}
 use mathlib.Core.List.{List, [], _∷_}
-use Prim.Native.Nat.{ℕ, zero, suc, _+_, _≤_, _<_}
+use Prim.Native.Nat.{ℕ, zero, suc, _+_, _*_, _≤_, _<_}
 use native.Mathlib.Omega.{arith}
 use lib.Dec.{eqb, ltb}
 use lib.ListN.{length, getD, drop, length-drop}
 use borrow.Author.Tests.{eqb-false, eq-eqb, ne-eqb, ltb-true, ltb-false, lt-ltb, le-ltb}
+use Rattle.finite.specs.Base.{firstOf, when}
 use Rattle.finite.proofs.Tests.{not-both, and-left, and-right, and-both, or-left-false, or-right-false}
 use Rattle.fields.specs.Files.{Field, Walk, tagOk, longOk, hasTag, addField, headLong, lastTag, faultWhere, faultBy, fieldAt, fieldsBy}
 use Rattle.fields.specs.Ordering.{ascends}
@@ -14,6 +15,11 @@ use Rattle.fields.proofs.Agree.{tag-from}
 use Rattle.fields.proofs.Added.{last-add}
 use Rattle.fields.proofs.Turns.{from-fault, from-met, Passed, passed-by}
 use Rattle.fields.proofs.Runs.{Run, ended, met}
+
+-- in any order: document 03's text
+old-text : (k : Bool) (fs : List Field) (s : List ℕ) → let t = getD s 0 0 in let n = 256 * getD s 1 0 + getD s 2 0 in
+    faultBy false k fs s ≡ firstOf (when (ltb (length s) 3) 1) (firstOf (when (not (tagOk k t)) 2) (firstOf (when (hasTag t fs) 3) (firstOf (when (not (longOk k t n)) 4) (when (ltb (length s) (3 + n)) 5))))
+old-text k fs s = refl
 
 -- a field that passed has no fault
 pub no-fault : (k a b : Bool) (s : List ℕ) → Passed k a b s → faultWhere k a b s ≡ 0

@@ -1,7 +1,7 @@
 -- Fields by rising tag: they are the same fields, they ascend, and fields that ascend are left as they are. By induction over the tags.
 -- Assumes nothing.
 use mathlib.Core.Path.{_≡_, refl, sym, ap, ap₂, _∙_}
-use mathlib.Core.Bool.{Bool, true, false, _&&_, _||_}
+use mathlib.Core.Bool.{Bool, true, false, _||_}
 use mathlib.Core.List.{List, [], _∷_, _++_, append-assoc}
 use Prim.Native.Nat.{ℕ, zero, suc, _+_, _≤_, _<_}
 use native.Mathlib.Omega.{arith}
@@ -9,7 +9,7 @@ use lib.Dec.{eqb, ltb}
 use lib.ListN.{length, length-append}
 use borrow.Author.Tests.{eqb-true, eqb-false, eq-eqb, ne-eqb, ltb-true, lt-ltb}
 use Rattle.finite.specs.Base.{pick}
-use Rattle.finite.proofs.Tests.{not-both, and-left, and-right, and-both, not-true-false}
+use Rattle.finite.proofs.Tests.{and-left, and-right, and-both}
 use Rattle.fields.specs.Files.{Field, hasTag, contentOf, addField, field}
 use Rattle.fields.specs.Ordering.{fieldOf, rising, bytesIn, ascends}
 use Rattle.fields.proofs.Added.{has-other, content-other, has-own, content-own}

@@ -1,21 +1,17 @@
 -- A walk that refuses nothing as a run of fields met one behind the other: from the walk to the run and back, in order or in any order.
 -- Assumes nothing.
 use mathlib.Core.Path.{_≡_, refl, sym, ap, _∙_}
-use mathlib.Core.Bool.{Bool, true, false, _&&_, not}
+use mathlib.Core.Bool.{Bool, true, false, not}
 use mathlib.Core.List.{List, [], _∷_, _++_, append-assoc, append-nil}
-use Prim.Native.Nat.{ℕ, zero, suc, _+_, _*_, _≤_, _<_}
+use Prim.Native.Nat.{ℕ, zero, suc, _+_, _<_}
 use native.Mathlib.Omega.{arith}
-use lib.Dec.{eqb, ltb}
-use lib.ListN.{length, getD, take, drop, length-drop, length-append}
-use lib.Seq.{length-take-le}
-use borrow.Author.Tests.{eqb-true, eqb-false, eq-eqb, ne-eqb, ltb-true, ltb-false, lt-ltb, le-ltb, not-false}
+use lib.Dec.{eqb}
+use lib.ListN.{length, drop, length-drop}
+use borrow.Author.Tests.{eqb-true, eqb-false, eq-eqb, ne-eqb, not-false}
 use Rattle.finite.specs.Base.{when}
-use Rattle.finite.proofs.Tests.{not-both, and-left, and-right, and-both, or-right, when-none}
-use Rattle.fields.specs.Files.{Field, Walk, walk, tagOk, longOk, hasTag, addField, allThere, headLong, lastTag, faultWhere, faultBy, fieldAt, fieldsBy, walkBy}
-use Rattle.fields.specs.Ordering.{ascends}
-use Rattle.fields.specs.Rules.{firstTag}
-use Rattle.fields.proofs.Agree.{tag-from}
-use Rattle.fields.proofs.Turns.{from-end, from-fault, from-met, passed, passed-by}
+use Rattle.finite.proofs.Tests.{when-none}
+use Rattle.fields.specs.Files.{Field, Walk, walk, addField, allThere, headLong, faultBy, fieldAt, fieldsBy, walkBy}
+use Rattle.fields.proofs.Turns.{from-end, from-fault, from-met, passed-by}
 
 -- fields added one behind the other
 abbrev pub addAll : List Field → List Field → List Field

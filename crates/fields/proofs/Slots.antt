@@ -6,19 +6,18 @@ use Prim.Native.Nat.{ℕ, zero, suc, _+_, _≤_, _<_}
 use native.Mathlib.Nat.{le-dest}
 use native.Mathlib.Numerals.{add-one}
 use native.Mathlib.Omega.{arith}
-use lib.Dec.{eqb, ltb, leb}
-use lib.ListN.{length, getD, length-append}
-use borrow.Author.Tests.{eq-eqb, ne-eqb, lt-ltb, le-ltb}
-use Rattle.finite.specs.Base.{pick, firstOf, when}
-use Rattle.fields.specs.Files.{Field, hasTag, contentOf, walkBy, oldWalk, field}
+use lib.ListN.{length, getD}
+use borrow.Author.Tests.{eq-eqb, lt-ltb, le-ltb}
+use Rattle.finite.specs.Base.{pick, firstOf}
+use Rattle.fields.specs.Files.{Field, hasTag, contentOf, oldWalk, field}
 use Rattle.fields.specs.Rules.{firstTag, tagAt}
 use Rattle.fields.specs.Says.{kept, Slot, HoldsBy, Within, bytesOf}
-use Rattle.fields.specs.Writing.{over, putAt, Written}
+use Rattle.fields.specs.Writing.{Written}
 use Rattle.fields.specs.Ordering.{fieldOf, rising, sorted, bytesIn, isShapeFile, orderedBytes, orderFault, OrderWith, OrderSays, OlderWalked}
 use Rattle.fields.specs.declared.Fields.{Fields}
 use Rattle.fields.specs.declared.ordering.Ordered.{Ordered}
 use Rattle.fields.proofs.Longest.{older-longest}
-use Rattle.fields.proofs.Puts.{put-front, put-none, length-put, field-long, written-none, written-then}
+use Rattle.fields.proofs.Puts.{put-front, field-long, written-none, written-then}
 use Rattle.fields.proofs.Rising.{rising-more, bytes-row, more-long, rising-most}
 use Rattle.fields.proofs.Sorted.{sorted-size}
 

@@ -6,17 +6,17 @@ use mathlib.Core.Bool.{Bool, true, false, _&&_}
 use mathlib.Core.List.{List, [], _∷_, _++_}
 use Prim.Native.Nat.{ℕ, zero, suc, _+_, _*_, _/_, _%_, _≤_, _<_}
 use native.Mathlib.Omega.{arith}
-use lib.Dec.{eqb, ltb, leb}
+use lib.Dec.{ltb, leb}
 use lib.ListN.{length, getD, take, drop, length-drop, take-append-drop}
 use lib.Seq.{length-take-le, drop-drop}
 use borrow.Author.Tests.{eq-eqb, ne-eqb, ltb-true, ltb-false, leb-true, le-ltb, lt-ltb, le-leb, lt-leb}
 use Rattle.finite.proofs.Tests.{not-both, and-left, and-right, and-both, not-true-false}
-use Rattle.fields.specs.Files.{Field, Walk, walk, tagOk, longOk, hasTag, contentOf, addField, allThere, headLong, lastTag, faultBy, fieldAt, walkBy, walkAll, oldWalk, two, field}
+use Rattle.fields.specs.Files.{Field, Walk, walk, tagOk, longOk, hasTag, contentOf, addField, allThere, headLong, lastTag, faultBy, fieldAt, walkBy, walkAll, oldWalk, field}
 use Rattle.fields.specs.Rules.{firstTag}
 use Rattle.fields.specs.Writing.{allBytes}
 use Rattle.fields.specs.Ordering.{rising, sorted, bytesIn, isShapeFile, orderedBytes, SameFields, ascends, Taken, Demands}
 use Rattle.fields.proofs.Agree.{tag-from}
-use Rattle.fields.proofs.Added.{has-other, has-own, last-add}
+use Rattle.fields.proofs.Added.{has-other, last-add}
 use Rattle.fields.proofs.Bytes.{bytes-drop}
 use Rattle.fields.proofs.FrontField.{metField, front-field, front-rest, front-fault}
 use Rattle.fields.proofs.Laid.{LaidOut, TagsOk, all-laid, all-tags, absent-none}
@@ -273,10 +273,16 @@ one-file k s t a b e g f =
     ∙ ap bytesIn (rising-same 6 (firstTag k) (walkAll k s .fields) (walkAll k t .fields) (λ u l. f .there u) (λ u l. f .content u))
     ∙ bytes-of k t g b
 
+pub same-out : (s t : List ℕ) → isShapeFile s ≡ isShapeFile t → SameFields (oldWalk (isShapeFile s) s .fields) (oldWalk (isShapeFile t) t .fields) → orderedBytes s ≡ orderedBytes t
+same-out s t i f =
+    ap bytesIn (rising-same 6 (firstTag (isShapeFile s)) (oldWalk (isShapeFile s) s .fields) (oldWalk (isShapeFile t) t .fields) (λ u l. f .there u) (λ u l. f .content u))
+    ∙ ap (λ (k : Bool). bytesIn (sorted k (oldWalk (isShapeFile t) t .fields))) i
+
 pub demands : Demands
 demands =
     record {
       taken = older-taken;
+      one-out = same-out;
       unchanged = λ k s b e. stays k s e b;
       canonical = one-file;
       exactly = just-ascending;

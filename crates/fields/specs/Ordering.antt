@@ -83,6 +83,8 @@ pub record Taken (s : List ℕ) : Type 0 where
 
 pub record Demands : Type 0 where
   pub taken : (s : List ℕ) → oldWalk (isShapeFile s) s .number ≡ 0 → Taken s
+  -- two older files of one kind with the same fields, in whatever order, come out as the same bytes
+  pub one-out : (s t : List ℕ) → isShapeFile s ≡ isShapeFile t → SameFields (oldWalk (isShapeFile s) s .fields) (oldWalk (isShapeFile t) t .fields) → orderedBytes s ≡ orderedBytes t
   -- a file in order comes back unchanged
   pub unchanged : (k : Bool) (s : List ℕ) → allBytes s ≡ true → walkAll k s .number ≡ 0 → (isShapeFile s ≡ k) × (orderedBytes s ≡ s)
   -- two files that are taken and have the same fields are the same bytes

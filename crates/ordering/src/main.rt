@@ -24,7 +24,7 @@ fn show(file: &[u8], out: &mut [u8]) {
 }
 
 // Of longer input only the first 1,024 bytes are read. No older file that is taken is longer than 614 bytes, so such
-// input is refused, and since the walk stops within its first 873 bytes, by the number that the whole has. The memory
+// input is refused, and since the walk stops within its first 617 bytes, by the number that the whole has. The memory
 // lent is as long as what is read, and a file in order is as long as before, so 16 is never printed.
 fn main() {
     let mut file = [0u8; 1024];

@@ -1,11 +1,11 @@
 -- A written shape's bytes are bytes: contents are cut from the list's bytes, lengths and the total fit two bytes, angles are at most 4 and right bends fit a byte. Assumes nothing.
 use mathlib.Core.Path.{_≡_, refl, ap, _∙_}
 use mathlib.Core.Bool.{Bool, true, false, _&&_}
-use mathlib.Core.List.{List, [], _∷_, _++_}
-use Prim.Native.Nat.{ℕ, zero, suc, _/_, _%_, _≤_, _<_}
+use mathlib.Core.List.{List, [], _∷_}
+use Prim.Native.Nat.{ℕ, suc, _≤_, _<_}
 use native.Mathlib.Omega.{arith}
 use lib.Dec.{eqb, ltb, leb}
-use lib.ListN.{length, getD, take, drop}
+use lib.ListN.{length, getD, drop}
 use borrow.Author.Tests.{eqb-true, lt-ltb, leb-true}
 use Rattle.finite.proofs.Tests.{and-left, and-right, and-both, each-over}
 use Rattle.fields.proofs.Added.{content-other, content-own}

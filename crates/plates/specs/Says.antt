@@ -1,11 +1,11 @@
 -- What the public calls promise.
 use mathlib.Core.Path.{_≡_}
 use mathlib.Core.Logic.{_↔_}
-use mathlib.Core.Bool.{Bool, true, false, _&&_, not}
-use mathlib.Core.List.{List, [], _∷_, _++_}
+use mathlib.Core.Bool.{true, false, _&&_, not}
+use mathlib.Core.List.{List}
 use Prim.Native.Nat.{ℕ, zero, suc, _+_, _*_, _≤_}
 use lib.Dec.{eqb, ltb}
-use lib.ListN.{length, drop}
+use lib.ListN.{length}
 use Rattle.plates.specs.declared.Shaped as DS
 use Rattle.plates.specs.declared.Verdict as DV
 use Rattle.plates.specs.Plates.{pick, firstOf, when, darts, strips, faces}

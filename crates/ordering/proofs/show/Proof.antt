@@ -1,6 +1,5 @@
 -- `ordering::show` writes as many bytes as are held in order. Assumes nothing.
 use mathlib.Core.Path.{sym}
-use native.Mathlib.Omega.{arith}
 use lib.Seq.{length-take-le}
 use borrow.Author.Needs.{needs}
 use Rattle.ordering.proofs.show.Statement.{statement}
