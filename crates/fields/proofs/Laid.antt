@@ -1,19 +1,16 @@
 -- The length of each field's content in a walked file is as laid out, and each tag one of the file: each step of the walk adds a field that passed refusals 2 and 4.
 -- Assumes nothing.
 use mathlib.Core.Path.{_≡_, refl, sym, ap, _∙_}
-use mathlib.Core.Bool.{Bool, true, false, not}
+use mathlib.Core.Bool.{Bool, true, false}
 use mathlib.Core.List.{List, [], _∷_}
-use Prim.Native.Nat.{ℕ, zero, suc, _+_, _<_}
-use native.Mathlib.Omega.{arith}
+use Prim.Native.Nat.{ℕ, zero, suc, _+_}
 use lib.Dec.{eqb}
-use lib.ListN.{length, drop, length-drop}
-use lib.Seq.{length-take-le}
-use borrow.Author.Tests.{eqb-true, eqb-false, not-false}
-use Rattle.finite.specs.Base.{when}
-use Rattle.finite.proofs.Tests.{not-both, or-left-false, or-right-false, when-none}
-use Rattle.fields.specs.Files.{Field, Walk, tagOk, longOk, hasTag, contentOf, addField, allThere, headLong, faultBy, fieldAt, fieldsBy, walkBy}
+use lib.ListN.{length, drop}
+use borrow.Author.Tests.{eqb-true}
+use Rattle.finite.proofs.Tests.{not-both, or-left-false, or-right-false}
+use Rattle.fields.specs.Files.{Field, tagOk, longOk, hasTag, contentOf, addField, headLong, faultBy, fieldAt, fieldsBy, walkBy}
 use Rattle.fields.proofs.Added.{has-other, content-other, content-own}
-use Rattle.fields.proofs.Turns.{from-end, from-fault, from-met, passed-by}
+use Rattle.fields.proofs.Turns.{from-end, from-fault, from-met, passed-by, content-size}
 
 -- P holds of the fields of a walk, if it holds of none and of each field more, met at the front of bytes of which Q holds
 module _ (o k : Bool) (Q : List ℕ → Type 0) (P : List Field → Type 0) (none : P []) (rest : (n : ℕ) (s : List ℕ) → Q s → Q (drop n s))
@@ -40,11 +37,8 @@ module _ (o k : Bool) (fs : List Field) (s : List ℕ) (laid : LaidOut k fs) (ok
   abbrev f : Field
   f = fieldAt s
 
-  size : length (f .content) ≡ headLong s
-  size = length-take-le (headLong s) (drop 3 s) (omega (arith, passed-by o k fs s ok .size, length-drop 3 s))
-
   own-long : length (contentOf (f .tag) (addField fs f)) ≡ headLong s
-  own-long = ap length (content-own f fs (passed-by o k fs s ok .new)) ∙ size
+  own-long = ap length (content-own f fs (passed-by o k fs s ok .new)) ∙ content-size s (passed-by o k fs s ok .size)
 
   own-laid : longOk k (f .tag) (length (contentOf (f .tag) (addField fs f))) ≡ true
   own-laid = ap (longOk k (f .tag)) own-long ∙ passed-by o k fs s ok .long
@@ -57,28 +51,7 @@ module _ (o k : Bool) (fs : List Field) (s : List ℕ) (laid : LaidOut k fs) (ok
       go false e = rw (content-other t f e fs) (laid t (sym (has-other t f e fs) ∙ h))
 
 pub all-laid : (o k : Bool) (s : List ℕ) → LaidOut k (walkBy o k s .fields)
-all-laid o k s = every-field o k (λ r. _≡_ {A = ℕ} 0 0) (LaidOut k) (none-laid k) (λ n r h. refl) (λ fs r h laid ok. more-laid o k fs r laid ok) (suc (length s)) [] s refl (none-laid k)
-
--- a file that passed the walk has every field but the remark
-there-from : (o : Bool) (l : ℕ) (k : Bool) (fs : List Field) (s : List ℕ) → length s < l → fieldsBy o l k fs s .number ≡ 0 → allThere k (fieldsBy o l k fs s .fields) ≡ true
-there-from o zero k fs s h e = absurd (omega arith)
-there-from o (suc l) k fs s h e = go (eqb (length s) 0) refl (eqb (faultBy o k fs s) 0) refl (there-from o l k (addField fs (fieldAt s)) (drop (3 + headLong s) s))
-  where
-    go : (a : Bool) → eqb (length s) 0 ≡ a → (b : Bool) → eqb (faultBy o k fs s) 0 ≡ b
-        → (length (drop (3 + headLong s) s) < l → fieldsBy o l k (addField fs (fieldAt s)) (drop (3 + headLong s) s) .number ≡ 0 → allThere k (fieldsBy o l k (addField fs (fieldAt s)) (drop (3 + headLong s) s) .fields) ≡ true)
-        → allThere k (fieldsBy o (suc l) k fs s .fields) ≡ true
-    go true p b q ih =
-        let z : when (not (allThere k fs)) 6 ≡ 0 = sym (ap (λ (w : Walk). w .number) (from-end o l k fs s p)) ∙ e in
-        rw (from-end o l k fs s p) (not-false (allThere k fs) (when-none (not (allThere k fs)) 5 z))
-    go false p false q ih =
-        let n : faultBy o k fs s ≡ 0 = sym (ap (λ (w : Walk). w .number) (from-fault o l k fs s p q)) ∙ e in
-        absurd (eqb-false (faultBy o k fs s) 0 q n)
-    go false p true q ih =
-        let some : length s ≡ 0 → ⊥ = eqb-false (length s) 0 p in
-        rw (from-met o l k fs s p q) (ih (omega (arith, length-drop (3 + headLong s) s, some)) (sym (ap (λ (w : Walk). w .number) (from-met o l k fs s p q)) ∙ e))
-
-pub all-there : (o k : Bool) (s : List ℕ) → walkBy o k s .number ≡ 0 → allThere k (walkBy o k s .fields) ≡ true
-all-there o k s e = there-from o (suc (length s)) k [] s (omega arith) e
+all-laid o k s = every-field o k (λ r. Unit {0}) (LaidOut k) (none-laid k) (λ n r h. tt) (λ fs r h laid ok. more-laid o k fs r laid ok) (suc (length s)) [] s tt (none-laid k)
 
 -- each tag that is there is one of the file
 abbrev pub TagsOk : Bool → List Field → Type 0
@@ -93,7 +66,7 @@ more-tags o k fs s tags ok t h = go (eqb t (fieldAt s .tag)) refl
 
 pub all-tags : (o k : Bool) (s : List ℕ) → TagsOk k (walkBy o k s .fields)
 all-tags o k s =
-    every-field o k (λ r. _≡_ {A = ℕ} 0 0) (TagsOk k) (λ t h. absurd (not-both h refl)) (λ n r h. refl) (λ fs r h tags ok. more-tags o k fs r tags ok) (suc (length s)) [] s refl (λ t h. absurd (not-both h refl))
+    every-field o k (λ r. Unit {0}) (TagsOk k) (λ t h. absurd (not-both h refl)) (λ n r h. tt) (λ fs r h tags ok. more-tags o k fs r tags ok) (suc (length s)) [] s tt (λ t h. absurd (not-both h refl))
 
 -- an absent field has no content
 pub absent-none : (t : ℕ) (gs : List Field) → hasTag t gs ≡ false → contentOf t gs ≡ []

@@ -5,6 +5,8 @@ pub mod Added
 pub mod Turns
 pub mod Walked
 pub mod FrontField
+pub mod Longest
+pub mod Fronts
 pub mod Bytes
 pub mod Laid
 pub mod Runs
@@ -13,5 +15,4 @@ pub mod Rising
 pub mod Sorted
 pub mod Slots
 pub mod Only
-pub mod Longest
 pub mod Puts

@@ -10,7 +10,7 @@ use lib.ListN.{length, getD, drop, length-drop}
 use borrow.Author.Tests.{eqb-true, eqb-false, leb-true, ne-eqb}
 use Rattle.finite.specs.Base.{pick}
 use Rattle.finite.proofs.Tests.{and-parts}
-use Rattle.fields.specs.Files.{Field, Walk, hasTag, addField, headLong, faultBy, fieldAt, fieldsBy, walkAll, oldWalk}
+use Rattle.fields.specs.Files.{Field, Walk, tagOk, longOk, hasTag, addField, headLong, faultBy, fieldAt, fieldsBy, walkAll, oldWalk}
 use Rattle.fields.specs.Rules.{keeps, ruleOf, slotOf, tagAt}
 use Rattle.fields.specs.declared.Rule.{Rule}
 use Rattle.fields.specs.declared.Rule.the-variants.{Exactly, EvenUpTo, UpTo, NoTag}
@@ -38,7 +38,7 @@ kept-room NoTag n e = absurd (subst T (sym e) tt)
 abbrev part : Bool → List Field → ℕ → ℕ
 part k fs i = pick (hasTag (tagAt k i) fs) 0 (roomOf (ruleOf k (tagAt k i)))
 
-abbrev room : ℕ → Bool → List Field → ℕ
+abbrev pub room : ℕ → Bool → List Field → ℕ
 room zero k fs = 0
 room (suc j) k fs = room j k fs + part k fs j
 
@@ -74,25 +74,21 @@ module _ (k : Bool) (fs : List Field) (f : Field) (new : hasTag (f .tag) fs ≡ 
       go false e ih = omega (arith, ih (omega (arith, eqb-false j i e)), part-other j (eqb-false j i e))
 
 -- the field at the front of s takes its bytes from the room
-module _ (o k : Bool) (fs : List Field) (s : List ℕ) (ok : faultBy o k fs s ≡ 0) where
+module _ (k : Bool) (fs : List Field) (s : List ℕ) where
   abbrev t : ℕ
   t = getD s 0 0
 
-  front-takes : room 6 k (addField fs (fieldAt s)) + (3 + headLong s) ≤ room 6 k fs
-  front-takes =
-      let p = passed-by o k fs s ok in
-      let b = tag-from k t (p .tag) in
+  pub front-takes : tagOk k t ≡ true → hasTag t fs ≡ false → longOk k t (headLong s) ≡ true → room 6 k (addField fs (fieldAt s)) + (3 + headLong s) ≤ room 6 k fs
+  front-takes tag new long =
+      let b = tag-from k t tag in
       let i = slotOf k t in
       let own : tagAt k i ≡ t = omega arith in
       let low : i < 6 = omega arith in
       omega (
         arith,
-        room-less k fs (fieldAt s) (p .new) i own 6 low,
-        kept-room (ruleOf k t) (headLong s) (agrees k t .long (headLong s) (p .tag) ∙ p .long),
+        room-less k fs (fieldAt s) new i own 6 low,
+        kept-room (ruleOf k t) (headLong s) (agrees k t .long (headLong s) tag ∙ long),
       )
-
-  front-fits : 3 + headLong s ≤ length s
-  front-fits = passed-by o k fs s ok .size
 
 longest-from : (o : Bool) (l : ℕ) (k : Bool) (fs : List Field) (s : List ℕ) → length s < l → fieldsBy o l k fs s .number ≡ 0 → length s ≤ room 6 k fs
 longest-from o zero k fs s h e = absurd (omega arith)
@@ -108,9 +104,10 @@ longest-from o (suc l) k fs s h e = go (eqb (length s) 0) refl (eqb (faultBy o k
     go false p true q ih =
         let ok : faultBy o k fs s ≡ 0 = eqb-true (faultBy o k fs s) 0 q in
         let rest = length-drop (3 + headLong s) s in
-        let fits = front-fits o k fs s ok in
+        let f = passed-by o k fs s ok in
+        let fits = f .size in
         let less = ih (omega arith) (sym (ap (λ (w : Walk). w .number) (from-met o l k fs s p q)) ∙ e) in
-        omega (arith, front-takes o k fs s ok)
+        omega (arith, front-takes k fs s (f .tag) (f .new) (f .long))
 
 pub list-longest : (s : List ℕ) → walkAll false s .number ≡ 0 → length s ≤ 614
 list-longest s e = longest-from true (suc (length s)) false [] s (omega arith) e

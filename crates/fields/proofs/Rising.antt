@@ -1,8 +1,8 @@
 -- Fields by rising tag: they are the same fields, they ascend, and fields that ascend are left as they are. By induction over the tags.
 -- Assumes nothing.
-use mathlib.Core.Path.{_≡_, refl, sym, ap, ap₂, _∙_}
+use mathlib.Core.Path.{_≡_, refl, sym, ap, ap₂, subst, _∙_}
 use mathlib.Core.Bool.{Bool, true, false, _||_}
-use mathlib.Core.List.{List, [], _∷_, _++_, append-assoc}
+use mathlib.Core.List.{List, [], _∷_, _++_, append-assoc, append-nil}
 use Prim.Native.Nat.{ℕ, zero, suc, _+_, _≤_, _<_}
 use native.Mathlib.Omega.{arith}
 use lib.Dec.{eqb, ltb}
@@ -48,58 +48,47 @@ rising-same (suc n) t fs gs h c =
 pub rising-more : (n t : ℕ) (fs : List Field) → rising (suc n) t fs ≡ rising n t fs ++ fieldOf (t + n) fs
 rising-more zero t fs =
     let e : t ≡ t + 0 = omega arith in
-    append-none (fieldOf t fs) ∙ ap (λ (u : ℕ). fieldOf u fs) e
-  where
-    append-none : (l : List Field) → l ++ [] ≡ l
-    append-none [] = refl
-    append-none (x ∷ l) = ap (λ (r : List Field). x ∷ r) (append-none l)
+    append-nil (fieldOf t fs) ∙ ap (λ (u : ℕ). fieldOf u fs) e
 rising-more (suc n) t fs =
     let e : suc t + n ≡ t + suc n = omega arith in
     ap (λ (l : List Field). fieldOf t fs ++ l) (rising-more n (suc t) fs ∙ ap (λ (u : ℕ). rising n (suc t) fs ++ fieldOf u fs) e)
     ∙ sym (append-assoc (fieldOf t fs) (rising n (suc t) fs) (fieldOf (t + suc n) fs))
 
--- tags below t and from t + n on are not there
-pub rising-low : (n t : ℕ) (fs : List Field) (u : ℕ) → u < t → hasTag u (rising n t fs) ≡ false
-rising-low zero t fs u l = refl
-rising-low (suc n) t fs u l = go (hasTag t fs) refl (rising-low n (suc t) fs u (omega arith))
+-- other tags than these n are not there
+pub rising-other : (n t : ℕ) (fs : List Field) (u : ℕ) → (t ≤ u → u < t + n → ⊥) → hasTag u (rising n t fs) ≡ false
+rising-other zero t fs u differ = refl
+rising-other (suc n) t fs u differ = go (hasTag t fs) refl (rising-other n (suc t) fs u (λ a b. differ (omega arith) (omega arith)))
   where
     go : (b : Bool) → hasTag t fs ≡ b → hasTag u (rising n (suc t) fs) ≡ false → hasTag u (rising (suc n) t fs) ≡ false
-    go true h ih = ap (hasTag u) (rising-there n t fs h) ∙ rw (ne-eqb u t (omega arith)) ih
+    go true h ih = ap (hasTag u) (rising-there n t fs h) ∙ rw (ne-eqb u t (λ e. differ (omega arith) (omega arith))) ih
     go false h ih = ap (hasTag u) (rising-absent n t fs h) ∙ ih
 
-pub rising-high : (n t : ℕ) (fs : List Field) (u : ℕ) → t + n ≤ u → hasTag u (rising n t fs) ≡ false
-rising-high zero t fs u l = refl
-rising-high (suc n) t fs u l = go (hasTag t fs) refl (rising-high n (suc t) fs u (omega arith))
-  where
-    go : (b : Bool) → hasTag t fs ≡ b → hasTag u (rising n (suc t) fs) ≡ false → hasTag u (rising (suc n) t fs) ≡ false
-    go true h ih = ap (hasTag u) (rising-there n t fs h) ∙ rw (ne-eqb u t (omega arith)) ih
-    go false h ih = ap (hasTag u) (rising-absent n t fs h) ∙ ih
+-- what two lists of fields say of one tag is the same
+abbrev pub SameAt : ℕ → List Field → List Field → Type 0
+SameAt u fs gs = (hasTag u fs ≡ hasTag u gs) × (contentOf u fs ≡ contentOf u gs)
 
--- those between are as before
-pub rising-has : (n t : ℕ) (fs : List Field) (u : ℕ) → t ≤ u → u < t + n → hasTag u (rising n t fs) ≡ hasTag u fs
-rising-has zero t fs u l m = absurd (omega arith)
-rising-has (suc n) t fs u l m = go (hasTag t fs) refl (eqb u t) refl (rising-has n (suc t) fs u)
-  where
-    go : (b : Bool) → hasTag t fs ≡ b → (c : Bool) → eqb u t ≡ c → (suc t ≤ u → u < suc t + n → hasTag u (rising n (suc t) fs) ≡ hasTag u fs) → hasTag u (rising (suc n) t fs) ≡ hasTag u fs
-    go true h true e ih = ap (hasTag u) (rising-there n t fs h) ∙ rw e (sym (ap (λ (x : ℕ). hasTag x fs) (eqb-true u t e) ∙ h))
-    go true h false e ih = ap (hasTag u) (rising-there n t fs h) ∙ rw e (ih (omega (arith, eqb-false u t e)) (omega arith))
-    go false h true e ih =
-        ap (hasTag u) (rising-absent n t fs h) ∙ rising-low n (suc t) fs u (omega (arith, eqb-true u t e)) ∙ sym (ap (λ (x : ℕ). hasTag x fs) (eqb-true u t e) ∙ h)
-    go false h false e ih = ap (hasTag u) (rising-absent n t fs h) ∙ ih (omega (arith, eqb-false u t e)) (omega arith)
+pub absent-same : (u : ℕ) (fs gs : List Field) → hasTag u fs ≡ false → hasTag u gs ≡ false → SameAt u fs gs
+absent-same u fs gs a b = (a ∙ sym b, absent-none u fs a ∙ sym (absent-none u gs b))
 
-pub rising-content : (n t : ℕ) (fs : List Field) (u : ℕ) → t ≤ u → u < t + n → contentOf u (rising n t fs) ≡ contentOf u fs
-rising-content zero t fs u l m = absurd (omega arith)
-rising-content (suc n) t fs u l m = go (hasTag t fs) refl (eqb u t) refl (rising-content n (suc t) fs u)
+-- these n tags are as before
+pub rising-at : (n t : ℕ) (fs : List Field) (u : ℕ) → t ≤ u → u < t + n → SameAt u (rising n t fs) fs
+rising-at zero t fs u l m = absurd (omega arith)
+rising-at (suc n) t fs u l m = go (hasTag t fs) refl (eqb u t) refl (rising-at n (suc t) fs u)
   where
-    go : (b : Bool) → hasTag t fs ≡ b → (c : Bool) → eqb u t ≡ c → (suc t ≤ u → u < suc t + n → contentOf u (rising n (suc t) fs) ≡ contentOf u fs) → contentOf u (rising (suc n) t fs) ≡ contentOf u fs
-    go true h true e ih = ap (contentOf u) (rising-there n t fs h) ∙ rw (e, contentOf) (ap (λ (x : ℕ). contentOf x fs) (sym (eqb-true u t e)))
-    go true h false e ih = ap (contentOf u) (rising-there n t fs h) ∙ rw (e, contentOf) (ih (omega (arith, eqb-false u t e)) (omega arith))
+    go : (b : Bool) → hasTag t fs ≡ b → (c : Bool) → eqb u t ≡ c → (suc t ≤ u → u < suc t + n → SameAt u (rising n (suc t) fs) fs) → SameAt u (rising (suc n) t fs) fs
+    go true h true e ih =
+        let q : u ≡ t = eqb-true u t e in
+        subst (λ (r : List Field). SameAt u r fs) (sym (rising-there n t fs h))
+        (rw e (sym (ap (λ (x : ℕ). hasTag x fs) q ∙ h)), rw (e, contentOf) (ap (λ (x : ℕ). contentOf x fs) (sym q)))
+    go true h false e ih =
+        let (a, b) = ih (omega (arith, eqb-false u t e)) (omega arith) in
+        subst (λ (r : List Field). SameAt u r fs) (sym (rising-there n t fs h)) (rw e a, rw (e, contentOf) b)
     go false h true e ih =
-        let a : hasTag u fs ≡ false = ap (λ (x : ℕ). hasTag x fs) (eqb-true u t e) ∙ h in
-        ap (contentOf u) (rising-absent n t fs h)
-        ∙ absent-none u (rising n (suc t) fs) (rising-low n (suc t) fs u (omega (arith, eqb-true u t e)))
-        ∙ sym (absent-none u fs a)
-    go false h false e ih = ap (contentOf u) (rising-absent n t fs h) ∙ ih (omega (arith, eqb-false u t e)) (omega arith)
+        let q : u ≡ t = eqb-true u t e in
+        subst (λ (r : List Field). SameAt u r fs) (sym (rising-absent n t fs h))
+        (absent-same u (rising n (suc t) fs) fs (rising-other n (suc t) fs u (λ a b. omega arith)) (ap (λ (x : ℕ). hasTag x fs) q ∙ h))
+    go false h false e ih =
+        subst (λ (r : List Field). SameAt u r fs) (sym (rising-absent n t fs h)) (ih (omega (arith, eqb-false u t e)) (omega arith))
 
 -- they ascend
 pub rising-up : (n t : ℕ) (fs : List Field) (p : ℕ) → p < t → ascends p (rising n t fs) ≡ true

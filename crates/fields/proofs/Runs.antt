@@ -50,7 +50,7 @@ module _ {o k : Bool} where
       go false p true q ih =
           let some : length s ≡ 0 → ⊥ = eqb-false (length s) 0 p in
           let (more, r, a) = ih (omega (arith, length-drop (3 + headLong s) s, some)) (sym (ap (λ (w : Walk). w .number) (from-met o l k fs s p q)) ∙ e) in
-          (fieldAt s ∷ more, met (eqb-true (faultBy o k fs s) 0 q) r, a)
+          (fieldAt s ∷ more, met {more = more} (eqb-true (faultBy o k fs s) 0 q) r, a)
 
   -- and back
   pub run-walk : (l : ℕ) (fs : List Field) (s : List ℕ) (more : List Field) → Run o k fs s more → length s < l → fieldsBy o l k fs s ≡ walk (when (not (allThere k (addAll fs more))) 6) (addAll fs more)
@@ -78,3 +78,7 @@ whole-of o k s e =
     let (more, r, a) = run-of {o = o} {k = k} (suc (length s)) [] s (omega arith) e in
     let there : allThere k more ≡ true = rw (all-append [] more) at a in
     record { more = more; run = r; there = there; answer = run-answer o k s more r there }
+
+-- a file that passed the walk has every field but the remark
+pub all-there : (o k : Bool) (s : List ℕ) → walkBy o k s .number ≡ 0 → allThere k (walkBy o k s .fields) ≡ true
+all-there o k s e = let w = whole-of o k s e in ap (λ (v : Walk). allThere k (v .fields)) (w .answer) ∙ w .there

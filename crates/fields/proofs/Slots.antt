@@ -6,9 +6,10 @@ use Prim.Native.Nat.{ℕ, zero, suc, _+_, _≤_, _<_}
 use native.Mathlib.Nat.{le-dest}
 use native.Mathlib.Numerals.{add-one}
 use native.Mathlib.Omega.{arith}
-use lib.ListN.{length, getD}
+use lib.ListN.{length, getD, drop, length-append}
 use borrow.Author.Tests.{eq-eqb, lt-ltb, le-ltb}
-use Rattle.finite.specs.Base.{pick, firstOf}
+use Rattle.finite.specs.Base.{pick}
+use Rattle.finite.proofs.Tests.{first-some}
 use Rattle.fields.specs.Files.{Field, hasTag, contentOf, oldWalk, field}
 use Rattle.fields.specs.Rules.{firstTag, tagAt}
 use Rattle.fields.specs.Says.{kept, Slot, HoldsBy, Within, bytesOf}
@@ -90,10 +91,6 @@ with-some : (n : ℕ) (s o o′ : List ℕ) (r : Ordered) → (n ≡ 0 → ⊥) 
 with-some zero s o o′ r h a b c = absurd (h refl)
 with-some (suc n) s o o′ r h a b c = (a, b, c)
 
-first-some : (a b : ℕ) → (a ≡ 0 → ⊥) → firstOf a b ≡ a
-first-some zero b h = absurd (h refl)
-first-some (suc a) b h = refl
-
 module _ {k : Bool} {s : List ℕ} {f : Fields} (kind : k ≡ isShapeFile s) (w : HoldsBy false k s f) where
   number-is : f .number ≡ oldWalk (isShapeFile s) s .number
   number-is = w .number ∙ ap (λ (j : Bool). oldWalk j s .number) kind
@@ -126,3 +123,11 @@ module _ {k : Bool} {s : List ℕ} {f : Fields} (kind : k ≡ isShapeFile s) (w 
       where
         zero-plus : (n : ℕ) → 0 + n ≡ n
         zero-plus n = omega arith
+
+-- what was written, or nothing, is within the lent memory
+pub order-fits : (s o o′ : List ℕ) (r : Ordered) → OrderSays s o o′ r → r .long ≤ length o′
+order-fits s o o′ r h = go (orderFault s o) h
+  where
+    go : (n : ℕ) → OrderWith n s o o′ r → r .long ≤ length o′
+    go zero (a, b, c) = omega (arith, b, ap length c, length-append (orderedBytes s) (drop (length (orderedBytes s)) o))
+    go (suc n) (a, b, c) = omega (arith, b)

@@ -1,7 +1,7 @@
 -- An older file put in order is taken by the walk with the same fields; a file in order stays as it is; files with the same fields are the same bytes.
 -- Assumes nothing.
 use mathlib.Core.Path.{_≡_, refl, sym, ap, ap₂, subst, subst₂, _∙_}
-use mathlib.Core.Logic.{_↔_}
+use mathlib.Core.Logic.{_↔_, ⊎-elim}
 use mathlib.Core.Bool.{Bool, true, false, _&&_}
 use mathlib.Core.List.{List, [], _∷_, _++_}
 use Prim.Native.Nat.{ℕ, zero, suc, _+_, _*_, _/_, _%_, _≤_, _<_}
@@ -9,21 +9,22 @@ use native.Mathlib.Omega.{arith}
 use lib.Dec.{ltb, leb}
 use lib.ListN.{length, getD, take, drop, length-drop, take-append-drop}
 use lib.Seq.{length-take-le, drop-drop}
-use borrow.Author.Tests.{eq-eqb, ne-eqb, ltb-true, ltb-false, leb-true, le-ltb, lt-ltb, le-leb, lt-leb}
-use Rattle.finite.proofs.Tests.{not-both, and-left, and-right, and-both, not-true-false}
-use Rattle.fields.specs.Files.{Field, Walk, walk, tagOk, longOk, hasTag, contentOf, addField, allThere, headLong, lastTag, faultBy, fieldAt, walkBy, walkAll, oldWalk, field}
+use borrow.Author.Tests.{eq-eqb, ne-eqb, ltb-true, ltb-false, leb-true, leb-false, le-ltb, lt-ltb, le-leb, lt-leb}
+use Rattle.finite.proofs.Tests.{not-both, and-left, and-right, and-both, not-true-false, equal-or-not}
+use Rattle.fields.specs.Files.{Field, Walk, walk, tagOk, longOk, hasTag, contentOf, addField, allThere, headLong, lastTag, fieldAt, walkBy, walkAll, oldWalk, field}
 use Rattle.fields.specs.Rules.{firstTag}
 use Rattle.fields.specs.Writing.{allBytes}
-use Rattle.fields.specs.Ordering.{rising, sorted, bytesIn, isShapeFile, orderedBytes, SameFields, ascends, Taken, Demands}
+use Rattle.fields.specs.Ordering.{rising, sorted, bytesIn, isShapeFile, orderedBytes, SameFields, ascends, Taken, Tag-order}
 use Rattle.fields.proofs.Agree.{tag-from}
 use Rattle.fields.proofs.Added.{has-other, last-add}
 use Rattle.fields.proofs.Bytes.{bytes-drop}
 use Rattle.fields.proofs.FrontField.{metField, front-field, front-rest, front-fault}
-use Rattle.fields.proofs.Laid.{LaidOut, TagsOk, all-laid, all-tags, absent-none}
-use Rattle.fields.proofs.Turns.{passed-by}
+use Rattle.fields.proofs.Fronts.{front-says}
+use Rattle.fields.proofs.Laid.{LaidOut, TagsOk, all-laid, all-tags}
+use Rattle.fields.proofs.Turns.{passed-by, content-size, older-few}
 use Rattle.fields.proofs.Runs.{Run, ended, met, addAll, all-append, Whole, run-answer, whole-of}
-use Rattle.fields.proofs.Ascent.{any-order, run-ascends, run-in-order, run-refused}
-use Rattle.fields.proofs.Rising.{rising-there, rising-absent, rising-none, rising-same, rising-low, rising-high, rising-has, rising-content, rising-up, rising-fixed, rising-add, bytes-cons-long}
+use Rattle.fields.proofs.Ascent.{walks-same, run-ascends, run-in-order}
+use Rattle.fields.proofs.Rising.{rising-there, rising-absent, rising-none, rising-same, SameAt, absent-same, rising-other, rising-at, rising-up, rising-fixed, rising-add, bytes-cons-long}
 
 -- ---- a field at the front makes a run one longer
 run-front : {o k : Bool} (fs : List Field) (t : ℕ) (c rest : List ℕ) (more : List Field) → tagOk k t ≡ true → hasTag t fs ≡ false → (o && ltb t (lastTag fs)) ≡ false → longOk k t (length c) ≡ true
@@ -66,38 +67,25 @@ module _ (k : Bool) (fs : List Field) (tags : TagsOk k fs) where
   outside : (u : ℕ) → (firstTag k ≤ u → u < firstTag k + 6 → ⊥) → hasTag u fs ≡ false
   outside u n = not-true-false (hasTag u fs) (λ h. let b = tag-from k u (tags u h) in n (b .0) (b .1))
 
-  -- P of a tag, if it holds of those of the file, below them and above
-  by-range : (P : Type 0) (u : ℕ) → (firstTag k ≤ u → u < firstTag k + 6 → P) → (u < firstTag k → P) → (firstTag k + 6 ≤ u → P) → P
-  by-range P u mid low high = go (ltb u (firstTag k)) refl (ltb u (firstTag k + 6)) refl
+  same-at : (u : ℕ) → SameAt u (sorted k fs) fs
+  same-at u = go (leb (firstTag k) u) refl (ltb u (firstTag k + 6)) refl
     where
-      go : (a : Bool) → ltb u (firstTag k) ≡ a → (b : Bool) → ltb u (firstTag k + 6) ≡ b → P
-      go true p b q = low (ltb-true u (firstTag k) p)
-      go false p true q = mid (ltb-false u (firstTag k) p) (ltb-true u (firstTag k + 6) q)
-      go false p false q = high (ltb-false u (firstTag k + 6) q)
+      other : (firstTag k ≤ u → u < firstTag k + 6 → ⊥) → SameAt u (sorted k fs) fs
+      other differ = absent-same u (sorted k fs) fs (rising-other 6 (firstTag k) fs u differ) (outside u differ)
 
-  sorted-has : (u : ℕ) → hasTag u (sorted k fs) ≡ hasTag u fs
-  sorted-has u =
-      by-range (hasTag u (sorted k fs) ≡ hasTag u fs) u (rising-has 6 (firstTag k) fs u)
-      (λ l. rising-low 6 (firstTag k) fs u l ∙ sym (outside u (λ a b. omega arith)))
-      (λ l. rising-high 6 (firstTag k) fs u l ∙ sym (outside u (λ a b. omega arith)))
-
-  sorted-content : (u : ℕ) → contentOf u (sorted k fs) ≡ contentOf u fs
-  sorted-content u =
-      by-range (contentOf u (sorted k fs) ≡ contentOf u fs) u (rising-content 6 (firstTag k) fs u)
-      (λ l. absent-none u (sorted k fs) (rising-low 6 (firstTag k) fs u l) ∙ sym (absent-none u fs (outside u (λ a b. omega arith))))
-      (λ l. absent-none u (sorted k fs) (rising-high 6 (firstTag k) fs u l) ∙ sym (absent-none u fs (outside u (λ a b. omega arith))))
+      go : (a : Bool) → leb (firstTag k) u ≡ a → (b : Bool) → ltb u (firstTag k + 6) ≡ b → SameAt u (sorted k fs) fs
+      go true p true q = rising-at 6 (firstTag k) fs u (leb-true (firstTag k) u p) (ltb-true u (firstTag k + 6) q)
+      go true p false q = let h = ltb-false u (firstTag k + 6) q in other (λ a b. omega arith)
+      go false p b q = let h = leb-false (firstTag k) u p in other (λ a b. omega arith)
 
   pub sorted-same : SameFields (sorted k fs) fs
-  sorted-same = record { there = sorted-has; content = sorted-content }
+  sorted-same = record { there = λ u. same-at u .0; content = λ u. same-at u .1 }
 
 there-same : (k : Bool) (fs gs : List Field) → ((t : ℕ) → hasTag t fs ≡ hasTag t gs) → allThere k fs ≡ allThere k gs
 there-same true fs gs h = rw (h 17, h 18, h 19, h 20)
 there-same false fs gs h = rw (h 1, h 2, h 3, h 4, h 5)
 
 -- ---- the bytes of a run
-size-at : (o k : Bool) (fs : List Field) (s : List ℕ) → faultBy o k fs s ≡ 0 → length (fieldAt s .content) ≡ headLong s
-size-at o k fs s e = length-take-le (headLong s) (drop 3 s) (omega (arith, passed-by o k fs s e .size, length-drop 3 s))
-
 module _ {o k : Bool} where
   pub run-long : (fs : List Field) (s : List ℕ) (more : List Field) → Run o k fs s more → length (bytesIn more) ≡ length s
   run-long fs s [] (ended z) = sym z
@@ -105,7 +93,7 @@ module _ {o k : Bool} where
       omega (
         arith,
         bytes-cons-long (fieldAt s) more,
-        size-at o k fs s e,
+        content-size s (passed-by o k fs s e .size),
         passed-by o k fs s e .size,
         length-drop (3 + headLong s) s,
         run-long (addField fs (fieldAt s)) (drop (3 + headLong s) s) more r,
@@ -192,7 +180,7 @@ sorted-fixed k fs tags a =
     let below : (u : ℕ) → hasTag u fs ≡ true → u < suc p + 6 = λ u h. let b = tag-from k u (tags u h) in omega arith in
     subst (λ (t : ℕ). rising 6 t fs ≡ fs) q (rising-fixed 6 p fs (raised k p q fs tags a) below)
 
--- ---- the demands
+-- ---- what holds of both walks
 module _ (k : Bool) (s : List ℕ) where
   fields-of : (o : Bool) (w : Whole o k s) → walkBy o k s .fields ≡ w .more
   fields-of o w = ap (λ (v : Walk). v .fields) (w .answer)
@@ -201,8 +189,8 @@ module _ (k : Bool) (s : List ℕ) where
     abbrev w : Whole true k s
     w = whole-of true k s e
 
-    pub as-before : walkAll k s ≡ oldWalk k s
-    as-before = w .answer ∙ sym (run-answer false k s (w .more) (any-order [] s (w .more) (w .run)) (w .there))
+    taken-same : walkAll k s ≡ oldWalk k s
+    taken-same = walks-same k s (λ n. omega (arith, e, n))
 
     fields-rise : ascends 0 (walkAll k s .fields) ≡ true
     fields-rise = subst (λ (fs : List Field). ascends 0 fs ≡ true) (sym (fields-of true w)) (run-ascends [] s (w .more) (w .run))
@@ -215,14 +203,14 @@ module _ (k : Bool) (s : List ℕ) where
     pub stays : allBytes s ≡ true → (isShapeFile s ≡ k) × (orderedBytes s ≡ s)
     stays b =
         let i : isShapeFile s ≡ k = kind-of true k s e in
-        let f : oldWalk k s .fields ≡ walkAll k s .fields = ap (λ (v : Walk). v .fields) (sym as-before) in
+        let f : oldWalk k s .fields ≡ walkAll k s .fields = ap (λ (v : Walk). v .fields) (sym taken-same) in
         (i, ap (λ (j : Bool). bytesIn (sorted j (oldWalk j s .fields))) i ∙ ap (λ (fs : List Field). bytesIn (sorted k fs)) f ∙ bytes-of b)
 
   pub just-ascending : (walkAll k s .number ≡ 0) ↔ ((oldWalk k s .number ≡ 0) × (ascends 0 (oldWalk k s .fields) ≡ true))
   just-ascending = (to, from)
     where
       to : walkAll k s .number ≡ 0 → (oldWalk k s .number ≡ 0) × (ascends 0 (oldWalk k s .fields) ≡ true)
-      to e = subst (λ (v : Walk). (v .number ≡ 0) × (ascends 0 (v .fields) ≡ true)) (as-before e) (e, fields-rise e)
+      to e = subst (λ (v : Walk). (v .number ≡ 0) × (ascends 0 (v .fields) ≡ true)) (taken-same e) (e, fields-rise e)
 
       from : (oldWalk k s .number ≡ 0) × (ascends 0 (oldWalk k s .fields) ≡ true) → walkAll k s .number ≡ 0
       from (e, a) =
@@ -231,10 +219,13 @@ module _ (k : Bool) (s : List ℕ) where
           ap (λ (x : Walk). x .number) (run-answer true k s (v .more) (run-in-order [] s (v .more) (v .run) r) (v .there))
 
   pub refused-29 : oldWalk k s .number ≡ 0 → ascends 0 (oldWalk k s .fields) ≡ false → walkAll k s .number ≡ 29
-  refused-29 e a =
-      let v = whole-of false k s e in
-      let r : ascends 0 (v .more) ≡ false = subst (λ (fs : List Field). ascends 0 fs ≡ false) (fields-of false v) a in
-      run-refused (suc (length s)) [] s (v .more) (v .run) r (omega arith)
+  refused-29 e a = ⊎-elim (λ p. p) (λ differ. absurd (no-other differ)) (equal-or-not (walkAll k s .number) 29)
+    where
+      no-other : (walkAll k s .number ≡ 29 → ⊥) → ⊥
+      no-other differ =
+          let same = walks-same k s differ in
+          let z : walkAll k s .number ≡ 0 = ap (λ (v : Walk). v .number) same ∙ e in
+          not-both (fields-rise z) (ap (λ (v : Walk). ascends 0 (v .fields)) same ∙ a)
 
   -- an older file that was taken, in order
   module _ (e : oldWalk k s .number ≡ 0) where
@@ -278,14 +269,17 @@ same-out s t i f =
     ap bytesIn (rising-same 6 (firstTag (isShapeFile s)) (oldWalk (isShapeFile s) s .fields) (oldWalk (isShapeFile t) t .fields) (λ u l. f .there u) (λ u l. f .content u))
     ∙ ap (λ (k : Bool). bytesIn (sorted k (oldWalk (isShapeFile t) t .fields))) i
 
-pub demands : Demands
-demands =
+pub tag-order : Tag-order
+tag-order =
     record {
       taken = older-taken;
       one-out = same-out;
       unchanged = λ k s b e. stays k s e b;
       canonical = one-file;
       exactly = just-ascending;
-      as-before = as-before;
+      as-before = walks-same;
       out-of-order = refused-29;
+      old-fault = λ k fs s. refl;
+      old-number = older-few;
+      front = front-says;
     }

@@ -5,7 +5,8 @@ use mathlib.Core.List.{List, []}
 use Prim.Native.Nat.{ℕ, zero, suc, _+_, _≤_}
 use native.Mathlib.Omega.{arith}
 use lib.Dec.{eqb, ltb}
-use lib.ListN.{length, getD, drop}
+use lib.ListN.{length, getD, drop, length-drop}
+use lib.Seq.{length-take-le}
 use borrow.Author.Tests.{ltb-false, le-ltb, not-false}
 use Rattle.finite.specs.Base.{pick, when}
 use Rattle.finite.proofs.Tests.{first-none, when-none, first-of, when-of, fault-of}
@@ -57,6 +58,10 @@ passed k met below r e =
       size = ltb-false (length r) (3 + headLong r) (when-none (ltb (length r) (3 + headLong r)) 4 e5);
     }
 
+-- its content is as long as its head says
+pub content-size : (s : List ℕ) → 3 + headLong s ≤ length s → length (fieldAt s .content) ≡ headLong s
+content-size s h = length-take-le (headLong s) (drop 3 s) (omega (arith, length-drop 3 s))
+
 pub passed-by : (o k : Bool) (fs : List Field) (s : List ℕ) → faultBy o k fs s ≡ 0 → Passed k (hasTag (getD s 0 0) fs) (o && ltb (getD s 0 0) (lastTag fs)) s
 passed-by o k fs s e = passed k (hasTag (getD s 0 0) fs) (o && ltb (getD s 0 0) (lastTag fs)) s e
 
@@ -74,7 +79,7 @@ module _ (P : ℕ → Type 0) (o : Bool) (few : (n : ℕ) → n ≤ 6 → P n) (
       (fault-of P none (not (longOk k (getD r 0 0) (headLong r))) 4 (few 4 (omega arith))
       (when-of P none (ltb (length r) (3 + headLong r)) 5 (few 5 (omega arith)))))))
 
-  numbered : Walk → Type 0
+  abbrev numbered : Walk → Type 0
   numbered w = P (w .number)
 
   from-number : (l : ℕ) (k : Bool) (fs : List Field) (r : List ℕ) → numbered (fieldsBy o l k fs r)

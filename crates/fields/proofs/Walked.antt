@@ -8,7 +8,7 @@ use native.Mathlib.Nat.{add-zero}
 use native.Mathlib.Omega.{arith}
 use lib.Dec.{eqb, ltb, lit<}
 use lib.ListN.{length, getD, take, drop, set, replicate, length-set, length-drop, getD-replicate}
-use lib.Seq.{getD-set-same, getD-set-other, getD-drop, drop-drop, length-take-le}
+use lib.Seq.{getD-set-same, getD-set-other, getD-drop, drop-drop}
 use borrow.Author.Tests.{eqb-true, eqb-false, ne-eqb, eq-eqb}
 use Rattle.finite.specs.Base.{pick, when}
 use Rattle.fields.specs.Files.{Field, Walk, walk, tagOk, hasTag, addField, allThere, headLong, lastTag, faultWhere, faultBy, fieldAt, fieldsBy, walkBy}
@@ -16,7 +16,7 @@ use Rattle.fields.specs.Rules.{slotOf, tagAt, frontFault, frontOf, allSe
 use Rattle.fields.specs.Says.{kept, Slot, HoldsBy, refusedBy}
 use Rattle.fields.specs.declared.Front.the-variants.{Fault, Met}
 use Rattle.fields.proofs.Agree.{tag-from}
-use Rattle.fields.proofs.Turns.{from-end, from-fault, from-met, fault-same, below-is, Passed, passed}
+use Rattle.fields.proofs.Turns.{from-end, from-fault, from-met, fault-same, below-is, Passed, passed, content-size}
 use Rattle.fields.proofs.Added.{endFrom, end-add, last-add, has-other, content-other, place-other, has-own, content-own, place-own}
 
 -- ---- which of its two answers `frontOf` gave
@@ -190,7 +190,7 @@ module _ (o k : Bool) (s at long : List ℕ) (seen : List Bool) (low next : ℕ)
       new = sym (seen-is (p .tag)) ∙ p .new
 
       size : length (f .content) ≡ n
-      size = length-take-le n (drop 3 r) (omega (arith, p .size, length-drop 3 r))
+      size = content-size r (p .size)
 
       own-slot : Slot s (addField (g .fs) f) t (next + 3) n true
       own-slot =

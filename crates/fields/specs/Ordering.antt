@@ -1,13 +1,13 @@
 -- Older files put in tag order: the fields by rising tag, their bytes, what the call promises, and what holds of both walks.
 use mathlib.Core.Path.{_≡_}
 use mathlib.Core.Logic.{_↔_}
-use mathlib.Core.Bool.{Bool, true, false, _&&_}
+use mathlib.Core.Bool.{Bool, true, false, _&&_, not}
 use mathlib.Core.List.{List, [], _∷_, _++_}
 use Prim.Native.Nat.{ℕ, zero, suc, _+_, _≤_, _<_}
 use lib.Dec.{ltb, leb}
-use lib.ListN.{length, getD}
+use lib.ListN.{length, getD, take}
 use Rattle.finite.specs.Base.{pick, firstOf, when}
-use Rattle.fields.specs.Files.{Field, walk, hasTag, contentOf, walkAll, oldWalk, field}
+use Rattle.fields.specs.Files.{Field, walk, tagOk, longOk, hasTag, contentOf, headLong, faultBy, walkAll, oldWalk, field}
 use Rattle.fields.specs.Rules.{firstTag, tagAt}
 use Rattle.fields.specs.Says.{HoldsBy}
 use Rattle.fields.specs.declared.Fields.{Fields}
@@ -69,6 +69,17 @@ pub record SameFields (fs gs : List Field) : Type 0 where
   pub there : (t : ℕ) → hasTag t fs ≡ hasTag t gs
   pub content : (t : ℕ) → contentOf t fs ≡ contentOf t gs
 
+-- a field's refusals before request E7
+abbrev pub oldFault : Bool → List Field → List ℕ → ℕ
+oldFault isShape fs s =
+    let t = getD s 0 0 in
+    let n = headLong s in
+    firstOf (when (ltb (length s) 3) 1)
+    (firstOf (when (not (tagOk isShape t)) 2)
+    (firstOf (when (hasTag t fs) 3)
+    (firstOf (when (not (longOk isShape t n)) 4)
+    (when (ltb (length s) (3 + n)) 5))))
+
 -- each tag is above the one before, the first above p
 abbrev pub ascends : ℕ → List Field → Bool
 ascends p [] = true
@@ -81,7 +92,8 @@ pub record Taken (s : List ℕ) : Type 0 where
   pub rises : let k = isShapeFile s in ascends 0 (sorted k (oldWalk k s .fields)) ≡ true
   pub long : length (orderedBytes s) ≡ length s
 
-pub record Demands : Type 0 where
+-- what request E7 asks
+pub record Tag-order : Type 0 where
   pub taken : (s : List ℕ) → oldWalk (isShapeFile s) s .number ≡ 0 → Taken s
   -- two older files of one kind with the same fields, in whatever order, come out as the same bytes
   pub one-out : (s t : List ℕ) → isShapeFile s ≡ isShapeFile t → SameFields (oldWalk (isShapeFile s) s .fields) (oldWalk (isShapeFile t) t .fields) → orderedBytes s ≡ orderedBytes t
@@ -90,7 +102,13 @@ pub record Demands : Type 0 where
   -- two files that are taken and have the same fields are the same bytes
   pub canonical : (k : Bool) (s t : List ℕ) → allBytes s ≡ true → allBytes t ≡ true → walkAll k s .number ≡ 0 → walkAll k t .number ≡ 0
       → SameFields (walkAll k s .fields) (walkAll k t .fields) → s ≡ t
-  -- the walk takes just the older files whose tags ascend, with the same answer; those whose tags do not it refuses with 29
+  -- the walk takes exactly the older files whose tags ascend; those whose tags do not it refuses with 29
   pub exactly : (k : Bool) (s : List ℕ) → (walkAll k s .number ≡ 0) ↔ ((oldWalk k s .number ≡ 0) × (ascends 0 (oldWalk k s .fields) ≡ true))
-  pub as-before : (k : Bool) (s : List ℕ) → walkAll k s .number ≡ 0 → walkAll k s ≡ oldWalk k s
   pub out-of-order : (k : Bool) (s : List ℕ) → oldWalk k s .number ≡ 0 → ascends 0 (oldWalk k s .fields) ≡ false → walkAll k s .number ≡ 29
+  -- every file, taken or refused, unless with 29, is answered as by the old walk
+  pub as-before : (k : Bool) (s : List ℕ) → (walkAll k s .number ≡ 29 → ⊥) → walkAll k s ≡ oldWalk k s
+  -- the old walk tries 1 to 5 at a field and never gives 29
+  pub old-fault : (k : Bool) (fs : List Field) (s : List ℕ) → faultBy false k fs s ≡ oldFault k fs s
+  pub old-number : (k : Bool) (s : List ℕ) → oldWalk k s .number ≤ 6
+  -- of a longer file the first 1,024 bytes have the whole one's answer
+  pub front : (s o o′ : List ℕ) (r : Ordered) → OrderSays (take 1024 s) o o′ r → OrderSays s o o′ r

@@ -24,7 +24,7 @@ fn is_shape(file: &[u8]) -> bool
     if file.len() == 0 {
         return false;
     }
-    file[0] >= 16
+    file[0] >= 0x10
 }
 
 // A refusal: its number alone.

@@ -1,30 +1,21 @@
-//! Reads an older plate list or shape file from standard input and writes it with its fields in tag order, or its refusal.
+//! Reads an older plate list or shape file from standard input and writes it with its fields in tag order, or prints its refusal.
+use console::say;
+use console::say_number;
 use fields::ordering::order_fields;
 use libc::STDIN_FILENO;
-use libc::STDOUT_FILENO;
-
-fn refuse(number: u8) {
-    io::write_all(STDOUT_FILENO, b"refused ");
-    io::print_decimal(STDOUT_FILENO, number as u64);
-    io::write_all(STDOUT_FILENO, b"\n");
-}
 
 // Writes the file in order, by way of `out`.
 fn show(file: &[u8], out: &mut [u8]) {
     let ordered = order_fields(file, out);
     let long = ordered.long;
     if ordered.number != 0 {
-        refuse(ordered.number);
+        say_number(b"refused ", ordered.number as u64);
         return;
     }
-    if out.len() < long {
-        return;
-    }
-    io::write_all(STDOUT_FILENO, &out[..long]);
+    say(&out[..long]);
 }
 
-// Of longer input only the first 1,024 bytes are read. No older file that is taken is longer than 614 bytes, so such
-// input is refused, and since the walk stops within its first 617 bytes, by the number that the whole has. The memory
+// Of longer input only the first 1,024 bytes are read, which have the answer of the whole (`Tag-order.front`). The memory
 // lent is as long as what is read, and a file in order is as long as before, so 16 is never printed.
 fn main() {
     let mut file = [0u8; 1024];

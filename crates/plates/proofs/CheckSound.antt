@@ -18,7 +18,8 @@ use Rattle.plates.specs.Says.{word, anglesIn, rightsIn, checkFault, Chec
 use Rattle.plates.specs.Read.{WalkedFile, shapeFileFault}
 use Rattle.shapes.specs.Judge.{judgement}
 use Rattle.plates.specs.Checks.{refusedVerdict, verdictOf, Judged}
-use Rattle.fields.proofs.Laid.{all-laid, all-there}
+use Rattle.fields.proofs.Laid.{all-laid}
+use Rattle.fields.proofs.Runs.{all-there}
 use Rattle.plates.proofs.HeldLists.{walked-content}
 
 -- places in turn: the list, the shape file, the verdict

@@ -8,7 +8,8 @@ use lib.Dec.{eqb, leb}
 use lib.ListN.{length}
 use borrow.Author.Tests.{eqb-true, leb-true}
 use Rattle.finite.proofs.Tests.{and-left, and-right}
-use Rattle.fields.proofs.Laid.{all-laid, all-there, absent-none}
+use Rattle.fields.proofs.Laid.{all-laid, absent-none}
+use Rattle.fields.proofs.Runs.{all-there}
 use Rattle.plates.specs.Files.{Field, hasTag, contentOf, walkAll}
 
 -- what holds of the fields of a list that passed the walk

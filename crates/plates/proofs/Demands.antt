@@ -13,6 +13,7 @@ use Rattle.plates.specs.Shapes.{rightsOf, shapeOf}
 use Rattle.plates.specs.Files.{walkAll, listFault, plateOf}
 use Rattle.plates.specs.Claims.{Best}
 use Rattle.plates.specs.Says.{fileLong, remarkLong, SamePlate, Same-shape, Demands, Files}
+use Rattle.plates.proofs.Fronts.{fronts}
 use Rattle.plates.proofs.Lists.{list-walked, list-accepted, list-demands}
 use Rattle.plates.proofs.Sound.{sound-exactly}
 use Rattle.plates.proofs.ReadsBack.{reads-back}
@@ -47,6 +48,7 @@ files =
       same-shape = same-shape;
       written-verdict = written-verdict;
       list-longest = list-longest;
+      front = fronts;
       file-long = file-long;
       file-bytes = shape-bytes-fit;
     }

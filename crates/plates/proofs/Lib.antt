@@ -1,6 +1,8 @@
 -- Laws that belong to no one function.
 pub mod Contents
 pub mod Lists
+pub mod Older
+pub mod Fronts
 pub mod Sound
 pub mod ShapeFile
 pub mod ReadsBack

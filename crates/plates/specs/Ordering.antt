@@ -1,2 +1,23 @@
--- Older files put in tag order, as the crate fields defines it.
-pub use Rattle.fields.specs.Ordering.{fieldOf, rising, sorted, bytesIn, isShapeFile, orderedBytes, orderFault, OrderWith, OrderSays, SameFields, ascends, Taken, Demands}
+-- Older files put in tag order, as the crate fields defines it, and what becomes of older lists.
+use mathlib.Core.Path.{_≡_}
+use mathlib.Core.Bool.{false}
+use mathlib.Core.List.{List}
+use Prim.Native.Nat.{ℕ}
+use Rattle.plates.specs.Plates.{firstOf, plateFault}
+use Rattle.plates.specs.Files.{walkAll, oldWalk, plateIn, listFault, plateOf, fileBytes}
+pub use Rattle.fields.specs.Ordering.{fieldOf, rising, sorted, bytesIn, isShapeFile, orderedBytes, orderFault, OrderWith, OrderSays, SameFields, oldFault, ascends, Taken, Tag-order}
+
+-- the refusals of a list whose fields may stand in any order
+abbrev pub oldListFault : List ℕ → ℕ
+oldListFault s = let w = oldWalk false s in firstOf (w .number) (plateFault (plateIn (w .fields)))
+
+-- an older list put in order: its number, its plate and what shape files copy from it are as they were
+pub record Kept-list (s : List ℕ) : Type 0 where
+  pub number : listFault (orderedBytes s) ≡ oldListFault s
+  pub plate : plateOf (orderedBytes s) ≡ plateIn (oldWalk false s .fields)
+  pub copied : (a r : List ℕ) → fileBytes (walkAll false (orderedBytes s) .fields) a r ≡ fileBytes (oldWalk false s .fields) a r
+
+pub record Older-lists : Type 0 where
+  pub kept : (s : List ℕ) → oldWalk false s .number ≡ 0 → Kept-list s
+  -- every list, accepted or refused, unless with 29, has the number and the fields that it had
+  pub as-before : (s : List ℕ) → (listFault s ≡ 29 → ⊥) → (listFault s ≡ oldListFault s) × (walkAll false s ≡ oldWalk false s)

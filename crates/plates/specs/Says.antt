@@ -5,7 +5,7 @@ use mathlib.Core.Bool.{true, false, _&&_, not}
 use mathlib.Core.List.{List}
 use Prim.Native.Nat.{ℕ, zero, suc, _+_, _*_, _≤_}
 use lib.Dec.{eqb, ltb}
-use lib.ListN.{length}
+use lib.ListN.{length, take}
 use Rattle.plates.specs.declared.Shaped as DS
 use Rattle.plates.specs.declared.Verdict as DV
 use Rattle.plates.specs.Plates.{pick, firstOf, when, darts, strips, faces}
@@ -15,7 +15,7 @@ use Rattle.plates.specs.Claims as C
 pub use Rattle.fields.specs.Says.{word}
 pub use Rattle.fields.specs.Writing.{over, allBytes}
 
--- shaping: 1 to 15, 16; the file of the best shape, whose angles and right bends are named
+-- shaping: the list's numbers, 16; the file of the best shape, whose angles and right bends are named
 abbrev pub remarkLong : List Field → ℕ
 remarkLong fs = pick (hasTag 6 fs) (3 + length (contentOf 6 fs)) 0
 
@@ -37,7 +37,7 @@ ShapeWith (suc f) s o o′ r = (r .number ≡ suc f) × (r .long ≡ 0) × (r .b
 abbrev pub ShapeSays : List ℕ → List ℕ → List ℕ → DS.Shaped → Type 0
 ShapeSays s o o′ r = ShapeWith (shapeFault s o) s o o′ r
 
--- checking: the list's 1 to 15, the shape file's 1 to 6, 17, 18, then 19 to 22
+-- checking: the list's numbers, the shape file's of its walk, 17, 18, then 19 to 22
 abbrev pub anglesIn : List ℕ → List ℕ
 anglesIn t = contentOf 19 (walkAll true t .fields)
 
@@ -116,6 +116,8 @@ pub record Files : Type 0 where
   pub same-shape : Same-shape
   pub written-verdict : Written-verdict
   pub list-longest : (s : List ℕ) → listFault s ≡ 0 → length s ≤ 614
+  -- of longer input the first 617 bytes have the number of the whole
+  pub front : (n : ℕ) (s t : List ℕ) → 617 ≤ n → (listFault (take n s) ≡ listFault s) × (checkFault (take n s) (take n t) ≡ checkFault s t)
   pub file-long : (s : List ℕ) → listFault s ≡ 0 → fileLong s ≡ 16 + 4 * strips (plateOf s) + remarkLong (walkAll false s .fields)
   pub file-bytes : (s a r : List ℕ) → listFault s ≡ 0 → allBytes s ≡ true → C.Best (plateOf s) (shapeOf (plateOf s) a r) → rightsOf (shapeOf (plateOf s) a r .words) ≡ r
       → allBytes (shapeBytes (walkAll false s .fields) (shapeOf (plateOf s) a r)) ≡ true

@@ -1,0 +1,54 @@
+-- Lists that were put in order have the fields that they had, so their number, plate and copied fields are as they were. Assumes nothing.
+use mathlib.Core.Path.{_≡_, sym, ap, subst, _∙_}
+use mathlib.Core.Bool.{Bool, false}
+use mathlib.Core.List.{List}
+use Prim.Native.Nat.{ℕ}
+use Rattle.fields.proofs.Sorted.{kind-of, tag-order}
+use Rattle.plates.specs.Plates.{firstOf, plateFault}
+use Rattle.plates.specs.Files.{Field, Walk, walk, walkAll, oldWalk, plateIn, listFault, plateOf, fileBytes}
+use Rattle.plates.specs.Ordering.{isShapeFile, sorted, orderedBytes, SameFields, Taken, oldListFault, Kept-list, Older-lists}
+
+plate-same : (fs gs : List Field) → SameFields fs gs → plateIn fs ≡ plateIn gs
+plate-same fs gs h = rw (h .content 2, h .content 3, h .content 4, h .content 5)
+
+copied-same : (fs gs : List Field) → SameFields fs gs → (a r : List ℕ) → fileBytes fs a r ≡ fileBytes gs a r
+copied-same fs gs h a r = rw (h .content 1, h .there 6, h .content 6)
+
+-- the number of a list by its walk
+abbrev number-by : Walk → ℕ
+number-by w = firstOf (w .number) (plateFault (plateIn (w .fields)))
+
+module _ (s : List ℕ) (e : oldWalk false s .number ≡ 0) where
+  abbrev fs : List Field
+  fs = oldWalk false s .fields
+
+  kind : isShapeFile s ≡ false
+  kind = kind-of false false s e
+
+  put : Taken s
+  put = tag-order .taken s (subst (λ (k : Bool). oldWalk k s .number ≡ 0) (sym kind) e)
+
+  walked : walkAll false (orderedBytes s) ≡ walk 0 (sorted false fs)
+  walked = subst (λ (k : Bool). walkAll k (orderedBytes s) ≡ walk 0 (sorted k (oldWalk k s .fields))) kind (put .walked)
+
+  same : SameFields (sorted false fs) fs
+  same = subst (λ (k : Bool). SameFields (sorted k (oldWalk k s .fields)) (oldWalk k s .fields)) kind (put .same)
+
+  plate-kept : plateOf (orderedBytes s) ≡ plateIn fs
+  plate-kept = ap (λ (w : Walk). plateIn (w .fields)) walked ∙ plate-same (sorted false fs) fs same
+
+  list-kept : Kept-list s
+  list-kept =
+      record {
+        number = ap number-by walked ∙ ap plateFault (plate-same (sorted false fs) fs same) ∙ sym (ap (λ (n : ℕ). firstOf n (plateFault (plateIn fs))) e);
+        plate = plate-kept;
+        copied = λ a r. ap (λ (w : Walk). fileBytes (w .fields) a r) walked ∙ copied-same (sorted false fs) fs same a r;
+      }
+
+list-as-before : (s : List ℕ) → (listFault s ≡ 29 → ⊥) → (listFault s ≡ oldListFault s) × (walkAll false s ≡ oldWalk false s)
+list-as-before s differ =
+    let w = tag-order .as-before false s (λ e. differ (ap (λ (n : ℕ). firstOf n (plateFault (plateOf s))) e)) in
+    (ap number-by w, w)
+
+pub older-lists : Older-lists
+older-lists = record { kept = list-kept; as-before = list-as-before }
