@@ -1,5 +1,6 @@
-/* Strip plates: from a plate list to the shape with fewest bends; and from a
- * book of entries to the current revision of a model.
+/* Strip plates: from a plate list to the shape with fewest bends; from an older
+ * file to the same in tag order; and from a book of entries to the current
+ * revision of a model.
  *
  * Link with libplates.a (x86-64 Linux); it needs the C library only.
  *
@@ -23,8 +24,9 @@ extern "C" {
 #endif
 
 /* Refusals, in the order in which they are tried. "File" is the plate list
- * or, for plates_check_shape, the plate list first and then the shape. 40 to
- * 42 are plates_current_revision's alone. */
+ * or, for plates_check_shape, the plate list first and then the shape, or for
+ * plates_order_fields the older file, which 29 does not concern. 40 to 42 are
+ * plates_current_revision's alone. */
 enum plates_refusal {
     PLATES_ACCEPTED = 0,
 
@@ -32,7 +34,7 @@ enum plates_refusal {
     PLATES_FIELD_CUT = 1,          /* one or two bytes remain */
     PLATES_UNKNOWN_TAG = 2,        /* tag not of this file */
     PLATES_REPEATED_TAG = 3,       /* tag met before */
-    PLATES_TAG_ORDER = 29,         /* tag below the previous one; not in older files */
+    PLATES_TAG_ORDER = 29,         /* tag below the previous one */
     PLATES_FIELD_LENGTH = 4,       /* length not as laid out */
     PLATES_CONTENT_CUT = 5,        /* content passes the end */
     PLATES_FIELD_ABSENT = 6,       /* a field other than the remark is absent */

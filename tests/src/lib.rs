@@ -2,13 +2,14 @@
 //! verified library. It shares no code and no algorithm with it.
 //!
 //! - [`book`]: books of entries by sets of revisions.
-//! - [`files`]: fields, refusals, shape files, verdicts, listings.
+//! - [`files`]: fields, refusals, shape files, verdicts, listings, older files.
 //! - [`plate`]: darts, rotation, faces, the conditions H3 and H4.
 //! - [`search`]: the best shape of a small plate by trying every shape.
 //! - [`cancelling`]: the best shape of any plate by cancelling cycles.
 //! - [`certificate`]: whether a given shape is the best one.
 //! - [`random`]: random plates from a seed.
 //! - [`remembered`]: best shapes found once for many lists of one plate.
+//! - [`damage`]: sound files made unsound.
 //! - [`compare`]: one call of the library against this implementation.
 //!
 //! `cargo test --release` runs the default mode, in seconds; with the variable
@@ -19,6 +20,7 @@ pub mod book;
 pub mod cancelling;
 pub mod certificate;
 pub mod compare;
+pub mod damage;
 pub mod files;
 pub mod plate;
 pub mod random;

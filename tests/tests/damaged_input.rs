@@ -2,87 +2,11 @@
 
 use plates_tests::cancelling;
 use plates_tests::compare;
+use plates_tests::damage::{changed_once, cut_and_mixed, each_damaged};
 use plates_tests::files::{read_list, shape_bytes};
 use plates_tests::long_mode;
 use plates_tests::random::{any_plate, list_of, Random};
 use plates_tests::remembered::cancel_once;
-
-/// The fields of a sound file, each with its tag and length.
-fn split_fields(file: &[u8]) -> Vec<Vec<u8>> {
-    let mut fields = Vec::new();
-    let mut rest = file;
-    while !rest.is_empty() {
-        let length = 3 + usize::from(u16::from_be_bytes([rest[1], rest[2]]));
-        fields.push(rest[..length].to_vec());
-        rest = &rest[length..];
-    }
-    fields
-}
-
-/// Calls `visit` with each damaged form of a sound file.
-fn each_damaged(file: &[u8], random: &mut Random, visit: &mut dyn FnMut(&[u8])) {
-    changed_bytes(file, random, visit);
-    changed_lengths(file, visit);
-    cut_and_mixed(file, visit);
-    for more in 1..=4 {
-        visit(&[file, &random.bytes(more)].concat());
-    }
-}
-
-/// The file cut at each length, with two fields exchanged, one field doubled,
-/// and one left out.
-fn cut_and_mixed(file: &[u8], visit: &mut dyn FnMut(&[u8])) {
-    (0..file.len()).for_each(|length| visit(&file[..length]));
-    let fields = split_fields(file);
-    for a in 0..fields.len() {
-        let mut without = fields.clone();
-        visit(&[&fields.concat()[..], &without.remove(a)].concat());
-        visit(&without.concat());
-        for b in 0..fields.len() {
-            let mut reordered = fields.clone();
-            reordered.swap(a, b);
-            visit(&reordered.concat());
-            reordered.insert(a, fields[b].clone());
-            visit(&reordered.concat());
-        }
-    }
-}
-
-/// Each byte changed to one other value.
-fn changed_once(file: &[u8], random: &mut Random, visit: &mut dyn FnMut(&[u8])) {
-    let mut damaged = file.to_vec();
-    for place in 0..file.len() {
-        damaged[place] ^= 1 + random.below(255) as u8;
-        visit(&damaged);
-        damaged[place] = file[place];
-    }
-}
-
-/// Each byte changed, to several other values.
-fn changed_bytes(file: &[u8], random: &mut Random, visit: &mut dyn FnMut(&[u8])) {
-    for place in 0..file.len() {
-        let old = file[place];
-        let near = [old.wrapping_add(1), old.wrapping_sub(1), old ^ 0x80];
-        for new in [near[0], near[1], near[2], 0, 0xff, random.draw() as u8] {
-            let mut damaged = file.to_vec();
-            damaged[place] = new;
-            visit(&damaged);
-        }
-    }
-}
-
-/// Each field with its content cut or longer, its length told truly.
-fn changed_lengths(file: &[u8], visit: &mut dyn FnMut(&[u8])) {
-    let fields = split_fields(file);
-    for place in 0..fields.len() {
-        for length in [0, 1, 2, 3, 4, 79, 80, 81, 82, 254, 255, 256, 257, 258] {
-            let mut damaged = fields.clone();
-            damaged[place].resize(3 + length, 0);
-            damaged[place][1..3].copy_from_slice(&(length as u16).to_be_bytes());
-            visit(&damaged.concat());
-        }
-    }
-}
 
 /// The list of a random plate with at most so many posts, perhaps with strips
 /// from a post to itself.

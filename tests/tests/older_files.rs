@@ -1,94 +1,191 @@
-//! Older files put in tag order: every order of their fields, and damaged ones.
+//! Fields in tag order: older files put in order, and both walks, on every order
+//! of the fields, on rows of fields, on damaged files and on longer ones.
 
-use plates_tests::cancelling;
 use plates_tests::compare;
-use plates_tests::files::{list_fields, read_list, shape_bytes};
+use plates_tests::damage::{changed_once, cut_and_mixed, split_fields};
+use plates_tests::files::{list_bytes, read_list, shape_bytes};
 use plates_tests::long_mode;
-use plates_tests::random::{plane_plate, Random};
+use plates_tests::plate::Plate;
+use plates_tests::random::{any_plate, list_of, Random};
+use plates_tests::remembered::cancel_once;
 
-/// Calls `visit` with every order of these items (Heap's way).
-fn each_order(items: &mut [Vec<u8>], count: usize, visit: &mut dyn FnMut(&[Vec<u8>])) {
+/// A sound list with its shape file.
+struct Pair {
+    list: Vec<u8>,
+    shape: Vec<u8>,
+}
+
+impl Pair {
+    fn of(list: Vec<u8>) -> Pair {
+        let read = read_list(&list).expect("the plate is plane");
+        let shape = shape_bytes(&read, &cancel_once(&read.plate));
+        Pair { list, shape }
+    }
+
+    fn random(random: &mut Random) -> Pair {
+        let plate = any_plate(6, random);
+        Pair::of(list_of(&plate, random))
+    }
+
+    /// The number of checking a shape file against this list.
+    fn checking(&self, shape: &[u8]) -> u8 {
+        compare::checking(&self.list, shape, cancel_once)
+    }
+}
+
+fn shaping(list: &[u8]) -> u8 {
+    compare::shaping(list, cancel_once)
+}
+
+/// Calls `visit` with every order of these fields (Heap's way).
+fn each_order(fields: &mut [Vec<u8>], count: usize, visit: &mut dyn FnMut(&[u8])) {
     if count <= 1 {
-        return visit(items);
+        return visit(&fields.concat());
     }
     for i in 0..count {
-        each_order(items, count - 1, visit);
+        each_order(fields, count - 1, visit);
         let other = if count % 2 == 0 { i } else { 0 };
-        items.swap(other, count - 1);
+        fields.swap(other, count - 1);
     }
 }
 
-/// A list and a shape file of a random plate, field by field in tag order.
-fn two_files(random: &mut Random) -> [Vec<Vec<u8>>; 2] {
-    let plate = plane_plate(6, random);
-    let length = random.below(81);
-    let remark = random.bytes(length);
-    let remark = (random.below(2) == 0).then_some(&remark[..]);
-    let list = list_fields(&plate, random.draw() as u16, remark);
-    let read = read_list(&list.concat()).expect("the plate is plane");
-    let file = shape_bytes(&read, &cancelling::best(&read.plate));
-    let mut fields = Vec::new();
-    let mut rest = &file[..];
-    while !rest.is_empty() {
-        let (field, behind) =
-            rest.split_at(3 + usize::from(u16::from_be_bytes([rest[1], rest[2]])));
-        fields.push(field.to_vec());
-        rest = behind;
+/// Calls `visit` with every row of at most so many of these fields.
+fn each_row(fields: &[Vec<u8>], most: usize, row: &mut Vec<u8>, visit: &mut dyn FnMut(&[u8])) {
+    visit(row);
+    if most > 0 {
+        for field in fields {
+            let before = row.len();
+            row.extend(field);
+            each_row(fields, most - 1, row, visit);
+            row.truncate(before);
+        }
     }
-    [list, fields]
 }
 
-/// In every order the same bytes come out, and they are those in tag order.
+/// In every order the same bytes come out, and the walk takes these and refuses
+/// the others with 29.
+fn orders_of(file: &[u8], walk: &dyn Fn(&[u8]) -> u8) -> usize {
+    let mut orders = 0;
+    let mut fields = split_fields(file);
+    let count = fields.len();
+    each_order(&mut fields, count, &mut |order| {
+        assert_eq!(compare::ordering(order), Ok(file.to_vec()));
+        assert_eq!(walk(order), if order == file { 0 } else { 29 });
+        orders += 1;
+    });
+    orders
+}
+
 #[test]
 fn every_order() {
     let count = if long_mode() { 200 } else { 8 };
     let mut random = Random::new(29);
     let mut orders = 0;
     for _ in 0..count {
-        for mut fields in two_files(&mut random) {
-            let in_tag_order = fields.concat();
-            let many = fields.len();
-            each_order(&mut fields, many, &mut |order| {
-                assert_eq!(compare::ordering(&order.concat()), Ok(in_tag_order.clone()));
-                orders += 1;
-            });
-        }
+        let pair = Pair::random(&mut random);
+        orders += orders_of(&pair.list, &shaping);
+        orders += orders_of(&pair.shape, &|order| pair.checking(order));
     }
     println!("{orders} orders");
     assert!(orders > 1000);
 }
 
-/// Shuffled files with each byte changed, cut at each length, and with fields
-/// left out or doubled: the numbers are those of the old walk, never 29.
+/// How many rows there are, how many the old walk takes, and how many the walk.
+fn rows_of(file: &[u8], walk: &dyn Fn(&[u8]) -> u8) -> [usize; 3] {
+    let mut counts = [0; 3];
+    let fields = split_fields(file);
+    each_row(&fields, fields.len(), &mut Vec::new(), &mut |row| {
+        let older = compare::ordering(row);
+        let number = walk(row);
+        counts[0] += 1;
+        counts[1] += usize::from(older.is_ok());
+        counts[2] += usize::from(number == 0);
+        // The walk gives 29 or the old number, and takes what is in order.
+        assert!(number == 29 || number == older.as_ref().err().copied().unwrap_or(0));
+        assert_eq!(number == 0, older.is_ok_and(|ordered| ordered == row));
+    });
+    counts
+}
+
+/// Every row of at most six fields of a list, and of at most five of a shape
+/// file, with fields left out and doubled: the plate has two posts and a strip.
+#[test]
+fn rows_of_fields() {
+    let plate = Plate {
+        posts: 2,
+        strips: vec![[0, 1]],
+        order: vec![vec![0], vec![1]],
+        outer: 0,
+    };
+    let pair = Pair::of(list_bytes(&plate, 7, Some(b"Hi")));
+    // All orders of the five or six fields, and of the four or five.
+    let lists = rows_of(&pair.list, &shaping);
+    assert_eq!(lists, [55_987, 120 + 720, 2]);
+    let shapes = rows_of(&pair.shape, &|row| pair.checking(row));
+    assert_eq!(shapes, [3_906, 24 + 120, 2]);
+}
+
+/// Shuffled files with each byte changed, cut at each length, with fields
+/// exchanged, doubled and left out: the numbers are the old walk's, never 29.
 #[test]
 fn damaged_older_files() {
     let count = if long_mode() { 400 } else { 20 };
     let mut random = Random::new(2_900);
     let mut numbers = [0usize; 30];
-    let mut compared =
-        |file: &[u8]| numbers[usize::from(compare::ordering(file).err().unwrap_or(0))] += 1;
     for _ in 0..count {
-        for mut fields in two_files(&mut random) {
+        let pair = Pair::random(&mut random);
+        for file in [&pair.list, &pair.shape] {
+            let mut fields = split_fields(file);
             random.shuffle(&mut fields);
-            let file = fields.concat();
-            let mut damaged = file.clone();
-            for place in 0..file.len() {
-                damaged[place] ^= 1 + random.below(255) as u8;
-                compared(&damaged);
-                damaged[place] = file[place];
-                compared(&file[..place]);
-            }
-            for place in 0..fields.len() {
-                let mut other = fields.clone();
-                other.push(fields[place].clone());
-                compared(&other.concat());
-                other.remove(place);
-                other.pop();
-                compared(&other.concat());
-            }
+            let older = fields.concat();
+            let mut compared = |damaged: &[u8]| {
+                let number = compare::ordering(damaged).err().unwrap_or(0);
+                numbers[usize::from(number)] += 1;
+            };
+            changed_once(&older, &mut random, &mut compared);
+            cut_and_mixed(&older, &mut compared);
         }
     }
     println!("{numbers:?}");
-    (0..=6).for_each(|number| assert_ne!(numbers[number], 0, "number {number}"));
-    assert_eq!(numbers[29], 0);
+    (0..30).for_each(|n| assert_eq!(numbers[n] != 0, n <= 6, "number {n}"));
+}
+
+/// A list and a shape file of the longest fields there are, in any order, with
+/// a field more and other bytes behind it: the first 617 bytes tell, as the
+/// first 1,024 do, which the programs read.
+#[test]
+fn longer_files() {
+    let mut random = Random::new(617);
+    let longest = [
+        vec![(1, 2), (2, 1), (3, 256), (4, 256), (5, 1), (6, 80)],
+        vec![(17, 2), (18, 2), (19, 256), (20, 256), (21, 80)],
+    ];
+    for turn in 0..400 {
+        let fields = &longest[turn % 2];
+        let again = fields[random.below(fields.len())].0;
+        let mut fields: Vec<Vec<u8>> = fields
+            .iter()
+            .map(|&(tag, length)| {
+                [
+                    vec![tag, (length >> 8) as u8, length as u8],
+                    random.bytes(length),
+                ]
+                .concat()
+            })
+            .collect();
+        if turn % 4 < 2 {
+            random.shuffle(&mut fields);
+        }
+        let mut file = [fields.concat(), vec![again]].concat();
+        file.extend(random.bytes(2_000));
+        assert_eq!(compare::ordering(&file), Err(3));
+        for read in [617, 1024] {
+            let front = &file[..read];
+            assert_eq!(compare::ordering(front), Err(3));
+            assert_eq!(shaping(front), shaping(&file));
+        }
+        // The last field's tag and no more of its head.
+        let short = fields.concat().len() + 1;
+        assert_eq!(compare::ordering(&file[..short]), Err(1));
+    }
 }

@@ -78,14 +78,14 @@ module _ (k : Bool) (fs : List Field) (s : List ℕ) where
   below-with b p c e = record { tag = p .tag; new = p .new; above = e; long = p .long; size = p .size }
 
   -- in order: above the last one
-  pub in-order-above : faultBy true k fs s ≡ 0 → ltb (lastTag fs) t ≡ true
+  in-order-above : faultBy true k fs s ≡ 0 → ltb (lastTag fs) t ≡ true
   in-order-above e =
       let p = passed-by true k fs s e in
       let l : lastTag fs ≤ t = ltb-false t (lastTag fs) (p .above) in
       lt-ltb (lastTag fs) t (omega (arith, not-last k fs t (p .tag) (p .new)))
 
   -- and a field in any order that is above the last one is in order
-  pub any-above : faultBy false k fs s ≡ 0 → ltb (lastTag fs) t ≡ true → faultBy true k fs s ≡ 0
+  any-above : faultBy false k fs s ≡ 0 → ltb (lastTag fs) t ≡ true → faultBy true k fs s ≡ 0
   any-above e a =
       let l : lastTag fs < t = ltb-true (lastTag fs) t a in
       no-fault k (hasTag t fs) (ltb t (lastTag fs)) s (below-with _ (passed-by false k fs s e) _ (le-ltb t (lastTag fs) (omega arith)))

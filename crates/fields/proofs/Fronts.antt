@@ -67,18 +67,18 @@ module _ (o k : Bool) (fs : List Field) (s : List ℕ) (n : ℕ) (enough : room 
   pub same-fault : faultBy o k fs (take n s) ≡ faultBy o k fs s
   same-fault = ap (λ (x : ℕ). fault-by x (getD (take n s) 0 0) (headLong (take n s))) long ∙ ap₂ (fault-by n) same-tag same-head ∙ same-by
 
-  pub front-left : eqb (length (take n s)) 0 ≡ false
+  front-left : eqb (length (take n s)) 0 ≡ false
   front-left = ne-eqb (length (take n s)) 0 (omega (arith, long))
 
   module _ (fits : 3 + h ≤ n) where
-    pub same-field : fieldAt (take n s) ≡ fieldAt s
+    same-field : fieldAt (take n s) ≡ fieldAt s
     same-field =
         let e : 3 + (n - 3) ≡ n = omega arith in
         let c : take h (drop 3 (take n s)) ≡ take h (drop 3 s) =
         ap (λ (x : ℕ). take h (drop 3 (take x s))) (sym e) ∙ ap (take h) (drop-front 3 (n - 3) s (omega arith)) ∙ take-take h (n - 3) (drop 3 s) (omega arith) in
         ap₂ (λ (u : ℕ) (x : List ℕ). record { tag = u; content = x }) same-tag (ap (λ (x : ℕ). take x (drop 3 (take n s))) same-head ∙ c)
 
-    pub same-rest : drop (3 + headLong (take n s)) (take n s) ≡ take (n - (3 + h)) (drop (3 + h) s)
+    same-rest : drop (3 + headLong (take n s)) (take n s) ≡ take (n - (3 + h)) (drop (3 + h) s)
     same-rest =
         let e : 3 + h + (n - (3 + h)) ≡ n = omega arith in
         ap (λ (x : ℕ). drop (3 + x) (take n s)) same-head ∙ ap (λ (x : ℕ). drop (3 + h) (take x s)) (sym e) ∙ drop-front (3 + h) (n - (3 + h)) s (omega arith)

@@ -100,7 +100,7 @@ rising-up (suc n) t fs p l = go (hasTag t fs) refl (rising-up n (suc t) fs t (om
     go false h ih jh = ap (ascends p) (rising-absent n t fs h) ∙ jh
 
 -- of fields that ascend from above p, tags up to p are not there
-pub ascends-low : (fs : List Field) (p u : ℕ) → ascends p fs ≡ true → u ≤ p → hasTag u fs ≡ false
+ascends-low : (fs : List Field) (p u : ℕ) → ascends p fs ≡ true → u ≤ p → hasTag u fs ≡ false
 ascends-low [] p u a l = refl
 ascends-low (f ∷ fs) p u a l =
     let b : p < f .tag = ltb-true p (f .tag) (and-left (ltb p (f .tag)) (ascends (f .tag) fs) a) in

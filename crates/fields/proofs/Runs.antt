@@ -33,7 +33,7 @@ pub data Run (o k : Bool) : List Field → List ℕ → List Field → Type 0 wh
 
 module _ {o k : Bool} where
   -- from a walk without refusal
-  pub run-of : (l : ℕ) (fs : List Field) (s : List ℕ) → length s < l → fieldsBy o l k fs s .number ≡ 0 → (more : List Field) × Run o k fs s more × (allThere k (addAll fs more) ≡ true)
+  run-of : (l : ℕ) (fs : List Field) (s : List ℕ) → length s < l → fieldsBy o l k fs s .number ≡ 0 → (more : List Field) × Run o k fs s more × (allThere k (addAll fs more) ≡ true)
   run-of zero fs s h e = absurd (omega arith)
   run-of (suc l) fs s h e = go (eqb (length s) 0) refl (eqb (faultBy o k fs s) 0) refl (run-of l (addField fs (fieldAt s)) (drop (3 + headLong s) s))
     where
@@ -53,7 +53,7 @@ module _ {o k : Bool} where
           (fieldAt s ∷ more, met {more = more} (eqb-true (faultBy o k fs s) 0 q) r, a)
 
   -- and back
-  pub run-walk : (l : ℕ) (fs : List Field) (s : List ℕ) (more : List Field) → Run o k fs s more → length s < l → fieldsBy o l k fs s ≡ walk (when (not (allThere k (addAll fs more))) 6) (addAll fs more)
+  run-walk : (l : ℕ) (fs : List Field) (s : List ℕ) (more : List Field) → Run o k fs s more → length s < l → fieldsBy o l k fs s ≡ walk (when (not (allThere k (addAll fs more))) 6) (addAll fs more)
   run-walk zero fs s more r h = absurd (omega arith)
   run-walk (suc l) fs s [] (ended z) h = from-end o l k fs s (eq-eqb (length s) 0 z)
   run-walk (suc l) fs s (f ∷ more) (met e r) h =

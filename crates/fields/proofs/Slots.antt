@@ -37,18 +37,18 @@ module _ {k : Bool} {s : List ℕ} {f : Fields} (w : OlderWalked k s f) where
     held : Slot s fs (tagAt k i) (getD (f .at) i 0) (getD (f .long) i 0) (getD (f .seen) i false)
     held = subst (λ (x : List Field). Slot s x (tagAt k i) (getD (f .at) i 0) (getD (f .long) i 0) (getD (f .seen) i false)) all-kept (w .holds .slot i h)
 
-    pub older-content : bytesOf s f i ≡ contentOf (tagAt k i) fs
+    older-content : bytesOf s f i ≡ contentOf (tagAt k i) fs
     older-content = held .content
 
     -- a field that is there: its bytes
-    pub slot-there : getD (f .seen) i false ≡ true → bytesIn (fieldOf (tagAt k i) fs) ≡ field (tagAt k i) (bytesOf s f i)
+    slot-there : getD (f .seen) i false ≡ true → bytesIn (fieldOf (tagAt k i) fs) ≡ field (tagAt k i) (bytesOf s f i)
     slot-there t =
         let h : hasTag (tagAt k i) fs ≡ true = sym (held .there) ∙ t in
         let one : bytesIn (fieldOf (tagAt k i) fs) ≡ field (tagAt k i) (contentOf (tagAt k i) fs) ++ [] =
         ap (λ (b : Bool). bytesIn (pick b (record { tag = tagAt k i; content = contentOf (tagAt k i) fs } ∷ []) [])) h in
         one ∙ append-nil (field (tagAt k i) (contentOf (tagAt k i) fs)) ∙ ap (field (tagAt k i)) (sym older-content)
 
-    pub slot-absent : getD (f .seen) i false ≡ false → bytesIn (fieldOf (tagAt k i) fs) ≡ []
+    slot-absent : getD (f .seen) i false ≡ false → bytesIn (fieldOf (tagAt k i) fs) ≡ []
     slot-absent t =
         ap (λ (b : Bool). bytesIn (pick b (record { tag = tagAt k i; content = contentOf (tagAt k i) fs } ∷ []) [])) (sym (held .there) ∙ t)
 

@@ -78,7 +78,7 @@ module _ (k : Bool) (fs : List Field) (tags : TagsOk k fs) where
       go true p false q = let h = ltb-false u (firstTag k + 6) q in other (λ a b. omega arith)
       go false p b q = let h = leb-false (firstTag k) u p in other (λ a b. omega arith)
 
-  pub sorted-same : SameFields (sorted k fs) fs
+  sorted-same : SameFields (sorted k fs) fs
   sorted-same = record { there = λ u. same-at u .0; content = λ u. same-at u .1 }
 
 there-same : (k : Bool) (fs gs : List Field) → ((t : ℕ) → hasTag t fs ≡ hasTag t gs) → allThere k fs ≡ allThere k gs
@@ -87,7 +87,7 @@ there-same false fs gs h = rw (h 1, h 2, h 3, h 4, h 5)
 
 -- ---- the bytes of a run
 module _ {o k : Bool} where
-  pub run-long : (fs : List Field) (s : List ℕ) (more : List Field) → Run o k fs s more → length (bytesIn more) ≡ length s
+  run-long : (fs : List Field) (s : List ℕ) (more : List Field) → Run o k fs s more → length (bytesIn more) ≡ length s
   run-long fs s [] (ended z) = sym z
   run-long fs s (f ∷ more) (met e r) =
       omega (
@@ -112,7 +112,7 @@ module _ {o k : Bool} where
         bytes-cons-long (fieldAt s) more,
       )
 
-  pub sorted-long : (s : List ℕ) (more : List Field) → Run o k [] s more → length (bytesIn (sorted k more)) ≡ length s
+  sorted-long : (s : List ℕ) (more : List Field) → Run o k [] s more → length (bytesIn (sorted k more)) ≡ length s
   sorted-long s more r =
       let e : addAll [] more ≡ more = all-append [] more in
       let a : length (bytesIn (sorted k more)) ≡ length (bytesIn (sorted k (addAll [] more))) = ap (λ (x : List Field). length (bytesIn (sorted k x))) (sym e) in
@@ -138,7 +138,7 @@ front-bytes (x ∷ (y ∷ (z ∷ s))) h b =
     ∙ ap (λ (l : List ℕ). x ∷ (y ∷ (z ∷ l))) (take-append-drop n s)
 
 module _ {o k : Bool} where
-  pub run-bytes : (fs : List Field) (s : List ℕ) (more : List Field) → Run o k fs s more → allBytes s ≡ true → bytesIn more ≡ s
+  run-bytes : (fs : List Field) (s : List ℕ) (more : List Field) → Run o k fs s more → allBytes s ≡ true → bytesIn more ≡ s
   run-bytes fs [] [] (ended z) b = refl
   run-bytes fs (x ∷ s) [] (ended z) b = absurd (omega arith)
   run-bytes fs s (f ∷ more) (met e r) b =
@@ -174,7 +174,7 @@ raised k p q (f ∷ fs) tags a =
     let b = tag-from k (f .tag) (tags (f .tag) own) in
     and-both (ltb p (f .tag)) (ascends (f .tag) fs) (lt-ltb p (f .tag) (omega arith)) (and-right (ltb 0 (f .tag)) (ascends (f .tag) fs) a)
 
-pub sorted-fixed : (k : Bool) (fs : List Field) → TagsOk k fs → ascends 0 fs ≡ true → sorted k fs ≡ fs
+sorted-fixed : (k : Bool) (fs : List Field) → TagsOk k fs → ascends 0 fs ≡ true → sorted k fs ≡ fs
 sorted-fixed k fs tags a =
     let (p, q) = before-first k in
     let below : (u : ℕ) → hasTag u fs ≡ true → u < suc p + 6 = λ u h. let b = tag-from k u (tags u h) in omega arith in
@@ -206,7 +206,7 @@ module _ (k : Bool) (s : List ℕ) where
         let f : oldWalk k s .fields ≡ walkAll k s .fields = ap (λ (v : Walk). v .fields) (sym taken-same) in
         (i, ap (λ (j : Bool). bytesIn (sorted j (oldWalk j s .fields))) i ∙ ap (λ (fs : List Field). bytesIn (sorted k fs)) f ∙ bytes-of b)
 
-  pub just-ascending : (walkAll k s .number ≡ 0) ↔ ((oldWalk k s .number ≡ 0) × (ascends 0 (oldWalk k s .fields) ≡ true))
+  just-ascending : (walkAll k s .number ≡ 0) ↔ ((oldWalk k s .number ≡ 0) × (ascends 0 (oldWalk k s .fields) ≡ true))
   just-ascending = (to, from)
     where
       to : walkAll k s .number ≡ 0 → (oldWalk k s .number ≡ 0) × (ascends 0 (oldWalk k s .fields) ≡ true)
@@ -218,7 +218,7 @@ module _ (k : Bool) (s : List ℕ) where
           let r : ascends 0 (v .more) ≡ true = subst (λ (fs : List Field). ascends 0 fs ≡ true) (fields-of false v) a in
           ap (λ (x : Walk). x .number) (run-answer true k s (v .more) (run-in-order [] s (v .more) (v .run) r) (v .there))
 
-  pub refused-29 : oldWalk k s .number ≡ 0 → ascends 0 (oldWalk k s .fields) ≡ false → walkAll k s .number ≡ 29
+  refused-29 : oldWalk k s .number ≡ 0 → ascends 0 (oldWalk k s .fields) ≡ false → walkAll k s .number ≡ 29
   refused-29 e a = ⊎-elim (λ p. p) (λ differ. absurd (no-other differ)) (equal-or-not (walkAll k s .number) 29)
     where
       no-other : (walkAll k s .number ≡ 29 → ⊥) → ⊥
@@ -248,7 +248,7 @@ module _ (k : Bool) (s : List ℕ) where
     sorted-rises : ascends 0 (sorted k fs) ≡ true
     sorted-rises = rising-up 6 (firstTag k) fs 0 (first-some k)
 
-pub older-taken : (s : List ℕ) → oldWalk (isShapeFile s) s .number ≡ 0 → Taken s
+older-taken : (s : List ℕ) → oldWalk (isShapeFile s) s .number ≡ 0 → Taken s
 older-taken s e =
     let k = isShapeFile s in
     record {
@@ -258,13 +258,13 @@ older-taken s e =
       long = sorted-size k s e;
     }
 
-pub one-file : (k : Bool) (s t : List ℕ) → allBytes s ≡ true → allBytes t ≡ true → walkAll k s .number ≡ 0 → walkAll k t .number ≡ 0 → SameFields (walkAll k s .fields) (walkAll k t .fields) → s ≡ t
+one-file : (k : Bool) (s t : List ℕ) → allBytes s ≡ true → allBytes t ≡ true → walkAll k s .number ≡ 0 → walkAll k t .number ≡ 0 → SameFields (walkAll k s .fields) (walkAll k t .fields) → s ≡ t
 one-file k s t a b e g f =
     sym (bytes-of k s e a)
     ∙ ap bytesIn (rising-same 6 (firstTag k) (walkAll k s .fields) (walkAll k t .fields) (λ u l. f .there u) (λ u l. f .content u))
     ∙ bytes-of k t g b
 
-pub same-out : (s t : List ℕ) → isShapeFile s ≡ isShapeFile t → SameFields (oldWalk (isShapeFile s) s .fields) (oldWalk (isShapeFile t) t .fields) → orderedBytes s ≡ orderedBytes t
+same-out : (s t : List ℕ) → isShapeFile s ≡ isShapeFile t → SameFields (oldWalk (isShapeFile s) s .fields) (oldWalk (isShapeFile t) t .fields) → orderedBytes s ≡ orderedBytes t
 same-out s t i f =
     ap bytesIn (rising-same 6 (firstTag (isShapeFile s)) (oldWalk (isShapeFile s) s .fields) (oldWalk (isShapeFile t) t .fields) (λ u l. f .there u) (λ u l. f .content u))
     ∙ ap (λ (k : Bool). bytesIn (sorted k (oldWalk (isShapeFile t) t .fields))) i

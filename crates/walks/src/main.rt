@@ -231,7 +231,7 @@ fn list_below() {
         b"02, 01, one byte",
         b"\x02\x00\x01\x02\x01\x00\x02\x00\x07\x03",
     );
-    // The previous tag counts, not the highest: 03 is below 04.
+    // Two neighbours exchanged.
     list(
         b"04, 03",
         b"\x01\x00\x02\x00\x07\x02\x00\x01\x02\x04\x00\x00\x03\x00\x00\x05\x00\x01\x01",
