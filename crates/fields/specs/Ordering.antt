@@ -18,11 +18,12 @@ use Rattle.fields.specs.declared.ordering.Ordered.{Ordered}
 abbrev pub fieldOf : ℕ → List Field → List Field
 fieldOf t fs = pick (hasTag t fs) (record { tag = t; content = contentOf t fs } ∷ []) []
 
--- the fields of n tags from t on, by rising tag; of all six tags that a file may have
+-- the fields of the n tags from t on, by rising tag
 abbrev pub rising : ℕ → ℕ → List Field → List Field
 rising zero t fs = []
 rising (suc n) t fs = fieldOf t fs ++ rising n (suc t) fs
 
+-- of the six tags from a file's first one on: all that it may have
 abbrev pub sorted : Bool → List Field → List Field
 sorted isShape fs = rising 6 (firstTag isShape) fs
 
@@ -50,7 +51,7 @@ OrderWith (suc f) s o o′ r = (r .number ≡ suc f) × (r .long ≡ 0) × (o′
 abbrev pub OrderSays : List ℕ → List ℕ → List ℕ → Ordered → Type 0
 OrderSays s o o′ r = OrderWith (orderFault s o) s o o′ r
 
--- an older file that passed its walk, with room for the field of one slot from a place on, and with room for all fields
+-- for the code: an older file that passed its walk, with room for the field of one slot from a place on, and with room for all fields
 pub record OlderWalked (isShape : Bool) (s : List ℕ) (f : Fields) : Type 0 where
   pub holds : HoldsBy false isShape s f
   pub passed : oldWalk isShape s .number ≡ 0

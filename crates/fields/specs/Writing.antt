@@ -14,6 +14,7 @@ putAt at xs out = take at out ++ (xs ++ drop (at + length xs) out)
 abbrev pub over : List ℕ → List ℕ → List ℕ
 over xs ys = xs ++ drop (length xs) ys
 
+-- each element is a byte
 abbrev pub allBytes : List ℕ → Bool
 allBytes [] = true
 allBytes (b ∷ bs) = ltb b 256 && allBytes bs
