@@ -185,19 +185,7 @@ pub fn check_shape(list: &[u8], shape: &[u8]) -> Result<Verdict, Refusal> {
 /// # Ok::<(), plates::Refusal>(())
 /// ```
 pub fn write_listing(list: &[u8], out: &mut [u8]) -> Result<usize, Refusal> {
-    let mut length = 0;
-    // SAFETY: each pointer comes from a reference or a slice, with the slice's
-    // own length, and `out` and the length overlap nothing.
-    let number = unsafe {
-        calls::plates_write_listing(
-            list.as_ptr(),
-            list.len(),
-            out.as_mut_ptr(),
-            out.len(),
-            &mut length,
-        )
-    };
-    accepted(number).map(|()| length)
+    written_by(calls::plates_write_listing, list, out)
 }
 
 /// Writes an older plate list or shape file, whose fields may stand in any
@@ -232,19 +220,7 @@ pub fn write_listing(list: &[u8], out: &mut [u8]) -> Result<usize, Refusal> {
 /// );
 /// ```
 pub fn order_fields(file: &[u8], out: &mut [u8]) -> Result<usize, Refusal> {
-    let mut length = 0;
-    // SAFETY: each pointer comes from a reference or a slice, with the slice's
-    // own length, and `out` and the length overlap nothing.
-    let number = unsafe {
-        calls::plates_order_fields(
-            file.as_ptr(),
-            file.len(),
-            out.as_mut_ptr(),
-            out.len(),
-            &mut length,
-        )
-    };
-    accepted(number).map(|()| length)
+    written_by(calls::plates_order_fields, file, out)
 }
 
 /// Gives the current revision of a model from a book of entries, or none where
@@ -279,6 +255,26 @@ pub fn current_revision(book: &[u8], model: u16) -> Result<Option<u16>, Refusal>
     let number =
         unsafe { calls::plates_current_revision(book.as_ptr(), book.len(), model, &mut revision) };
     accepted(number).map(|()| (revision != 0).then_some(revision))
+}
+
+/// A call that reads bytes, writes to lent memory and gives the length of what
+/// it wrote.
+type Write = unsafe extern "C" fn(*const u8, usize, *mut u8, usize, &mut usize) -> u8;
+
+fn written_by(call: Write, from: &[u8], out: &mut [u8]) -> Result<usize, Refusal> {
+    let mut length = 0;
+    // SAFETY: each pointer comes from a reference or a slice, with the slice's
+    // own length, and `out` and the length overlap nothing.
+    let number = unsafe {
+        call(
+            from.as_ptr(),
+            from.len(),
+            out.as_mut_ptr(),
+            out.len(),
+            &mut length,
+        )
+    };
+    accepted(number).map(|()| length)
 }
 
 /// The library returns 0 or a refusal's number, and no other.

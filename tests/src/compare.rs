@@ -87,48 +87,44 @@ pub fn checking(list: &[u8], shape: &[u8], best: Solver) -> u8 {
     wanted.err().unwrap_or(0)
 }
 
+/// A call that writes what it makes of some bytes to lent memory, and gives its
+/// length.
+type Writing = fn(&[u8], &mut [u8]) -> Result<usize, plates::Refusal>;
+
+/// Compares such a call for lent memory of several lengths.
+fn writing(name: &str, call: Writing, from: &[u8], expected: Result<&[u8], u8>) {
+    let length = expected.map_or(40, <[u8]>::len);
+    for lent in lengths_to_lend(length) {
+        let wanted = expected.and_then(|bytes| if lent < length { Err(16) } else { Ok(bytes) });
+        let after = memory_after(lent, wanted.unwrap_or(&[]));
+        let mut out = pattern(lent);
+        let given = call(from, &mut out).map_err(plates::Refusal::number);
+        assert!(
+            given == wanted.map(<[u8]>::len) && out == after,
+            "{name}: from {}\nlent {lent} bytes\ngiven {given:?}\nwanted {wanted:?}\nmemory {}\nwanted {}",
+            hex(from),
+            hex(&out),
+            hex(&after),
+        );
+    }
+}
+
 /// Compares the listing for lent memory of several lengths.
 pub fn listing(list: &[u8], best: Solver) {
     let text = listing_of(list, best);
-    for lent in lengths_to_lend(text.len()) {
-        let enough = lent >= text.len();
-        let written = if enough { text.as_bytes() } else { &[] };
-        let wanted = if enough { Ok(text.len()) } else { Err(16) };
-        let mut out = pattern(lent);
-        let given = plates::write_listing(list, &mut out).map_err(plates::Refusal::number);
-        assert!(
-            given == wanted && out == memory_after(lent, written),
-            "write_listing: list {}\nlent {lent} bytes\ngiven {given:?}\nwanted {wanted:?}\nmemory {}\nwanted {}",
-            hex(list),
-            hex(&out),
-            hex(&memory_after(lent, written)),
-        );
-    }
+    writing(
+        "write_listing",
+        plates::write_listing,
+        list,
+        Ok(text.as_bytes()),
+    );
 }
 
 /// Compares putting an older file in order, for lent memory of several
 /// lengths. Gives the file in order, or its refusal.
 pub fn ordering(file: &[u8]) -> Result<Vec<u8>, u8> {
     let expected = in_order(file);
-    let length = expected.as_ref().map_or(40, Vec::len);
-    for lent in lengths_to_lend(length) {
-        let wanted = match &expected {
-            Err(number) => Err(*number),
-            Ok(_) if lent < length => Err(16),
-            Ok(_) => Ok(length),
-        };
-        let written = match (&expected, wanted) {
-            (Ok(ordered), Ok(_)) => &ordered[..],
-            _ => &[],
-        };
-        let mut out = pattern(lent);
-        let given = plates::order_fields(file, &mut out).map_err(plates::Refusal::number);
-        assert!(
-            given == wanted && out == memory_after(lent, written),
-            "order_fields: file {}\nlent {lent} bytes\ngiven {given:?}\nwanted {wanted:?}\nmemory {}",
-            hex(file),
-            hex(&out),
-        );
-    }
+    let bytes = expected.as_deref().map_err(|&number| number);
+    writing("order_fields", plates::order_fields, file, bytes);
     expected
 }

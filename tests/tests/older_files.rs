@@ -37,7 +37,7 @@ fn shaping(list: &[u8]) -> u8 {
     compare::shaping(list, cancel_once)
 }
 
-/// Calls `visit` with every order of these fields (Heap's way).
+/// Calls `visit` with every order of these fields (Heap's algorithm).
 fn each_order(fields: &mut [Vec<u8>], count: usize, visit: &mut dyn FnMut(&[u8])) {
     if count <= 1 {
         return visit(&fields.concat());
@@ -150,42 +150,45 @@ fn damaged_older_files() {
     (0..30).for_each(|n| assert_eq!(numbers[n] != 0, n <= 6, "number {n}"));
 }
 
-/// A list and a shape file of the longest fields there are, in any order, with
-/// a field more and other bytes behind it: the first 617 bytes tell, as the
+/// The longest fields that a list and a shape file may have: tag and length.
+const LONGEST: [&[(u8, usize)]; 2] = [
+    &[(1, 2), (2, 1), (3, 256), (4, 256), (5, 1), (6, 80)],
+    &[(17, 2), (18, 2), (19, 256), (20, 256), (21, 80)],
+];
+
+/// A list or a shape file of the longest fields, in any order, with a field of
+/// one of its tags and other bytes behind it: the first 617 bytes tell, as the
 /// first 1,024 do, which the programs read.
 #[test]
 fn longer_files() {
     let mut random = Random::new(617);
-    let longest = [
-        vec![(1, 2), (2, 1), (3, 256), (4, 256), (5, 1), (6, 80)],
-        vec![(17, 2), (18, 2), (19, 256), (20, 256), (21, 80)],
-    ];
+    let pair = Pair::random(&mut random);
+    let mut numbers = [[0usize; 30]; 2];
     for turn in 0..400 {
-        let fields = &longest[turn % 2];
-        let again = fields[random.below(fields.len())].0;
-        let mut fields: Vec<Vec<u8>> = fields
-            .iter()
-            .map(|&(tag, length)| {
-                [
-                    vec![tag, (length >> 8) as u8, length as u8],
-                    random.bytes(length),
-                ]
-                .concat()
-            })
-            .collect();
+        let mut fields = Vec::new();
+        for &(tag, length) in LONGEST[turn % 2] {
+            let [high, low] = (length as u16).to_be_bytes();
+            fields.push([vec![tag, high, low], random.bytes(length)].concat());
+        }
+        let again = fields[random.below(fields.len())][0];
         if turn % 4 < 2 {
             random.shuffle(&mut fields);
         }
-        let mut file = [fields.concat(), vec![again]].concat();
-        file.extend(random.bytes(2_000));
+        let end = fields.concat().len();
+        let file = [fields.concat(), vec![again], random.bytes(2_000)].concat();
+        let calls = [shaping(&file), pair.checking(&file)];
         assert_eq!(compare::ordering(&file), Err(3));
         for read in [617, 1024] {
             let front = &file[..read];
             assert_eq!(compare::ordering(front), Err(3));
-            assert_eq!(shaping(front), shaping(&file));
+            assert_eq!([shaping(front), pair.checking(front)], calls);
         }
         // The last field's tag and no more of its head.
-        let short = fields.concat().len() + 1;
-        assert_eq!(compare::ordering(&file[..short]), Err(1));
+        assert_eq!(compare::ordering(&file[..end + 1]), Err(1));
+        (0..2).for_each(|call| numbers[call][usize::from(calls[call])] += 1);
+    }
+    // A file of the other kind is refused with 2, one in order with 3.
+    for met in numbers {
+        (0..30).for_each(|n| assert_eq!(met[n] != 0, [2, 3, 29].contains(&n), "number {n}"));
     }
 }

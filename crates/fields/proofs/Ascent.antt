@@ -11,11 +11,11 @@ use lib.ListN.{length, getD, drop}
 use borrow.Author.Tests.{eqb-true, eqb-false, ltb-true, ltb-false, lt-ltb, le-ltb}
 use Rattle.finite.specs.Base.{firstOf, when}
 use Rattle.finite.proofs.Tests.{and-left, and-right, and-both, or-left-false, or-right-false}
-use Rattle.fields.specs.Files.{Field, Walk, walk, tagOk, hasTag, addField, headLong, lastTag, faultWhere, faultBy, fieldAt, fieldsBy, walkAll, oldWalk}
+use Rattle.fields.specs.Files.{Field, Walk, walk, tagOk, hasTag, addField, headLong, lastTag, faultBy, fieldAt, fieldsBy, walkAll, oldWalk}
 use Rattle.fields.specs.Ordering.{ascends}
 use Rattle.fields.proofs.Agree.{tag-from}
 use Rattle.fields.proofs.Added.{last-add}
-use Rattle.fields.proofs.Turns.{from-end, from-fault, from-met, Passed, passed-by}
+use Rattle.fields.proofs.Turns.{from-end, from-fault, from-met, Passed, no-fault, passed-by}
 use Rattle.fields.proofs.Runs.{Run, ended, met}
 
 -- ---- unless the walk in order gives 29, both walks are the same
@@ -58,11 +58,6 @@ module _ (k : Bool) where
   walks-same s differ = same-from (suc (length s)) [] s differ
 
 -- ---- runs in order
--- a field that passed has no fault
-pub no-fault : (k a b : Bool) (s : List ℕ) → Passed k a b s → faultWhere k a b s ≡ 0
-no-fault k a b s p =
-    simp (le-ltb (length s) 3 (omega (arith, p .size)), p .tag, p .new, p .above, p .long, le-ltb (length s) (3 + headLong s) (p .size))
-
 -- a tag that is new is not the last one
 not-last : (k : Bool) (fs : List Field) (t : ℕ) → tagOk k t ≡ true → hasTag t fs ≡ false → t ≡ lastTag fs → ⊥
 not-last true [] t o n e = let b = tag-from true t o in omega arith

@@ -7,10 +7,10 @@ use native.Mathlib.Omega.{arith}
 use lib.Dec.{ltb}
 use lib.ListN.{length, drop, take, length-append}
 use lib.Seq.{take-at, drop-at}
-use borrow.Author.Tests.{le-ltb, eq-eqb, ne-eqb}
+use borrow.Author.Tests.{eq-eqb, ne-eqb}
 use Rattle.fields.specs.Files.{Field, tagOk, longOk, hasTag, addField, lastTag, headLong, faultBy, fieldAt, fieldsBy, two, field}
 use Rattle.fields.specs.Says.{word}
-use Rattle.fields.proofs.Turns.{from-met}
+use Rattle.fields.proofs.Turns.{from-met, no-fault}
 
 -- two bytes give their number back
 pub word-two : (v : ℕ) → word (two v) ≡ v
@@ -38,8 +38,8 @@ module _ (t : ℕ) (c rest : List ℕ) where
   module _ (o k : Bool) (fs : List Field) (tag : tagOk k t ≡ true) (new : hasTag t fs ≡ false) (above : (o && ltb t (lastTag fs)) ≡ false) (long : longOk k t (length c) ≡ true) where
     pub front-fault : faultBy o k fs s ≡ 0
     front-fault =
-        let long′ : longOk k t (headLong s) ≡ true = ap (longOk k t) head-long ∙ long in
-        simp (le-ltb (length s) 3 (omega (arith, whole-long)), tag, new, above, long′, le-ltb (length s) (3 + headLong s) (omega (arith, whole-long, head-long)))
+        no-fault k (hasTag t fs) (o && ltb t (lastTag fs)) s
+        (record { tag = tag; new = new; above = above; long = ap (longOk k t) head-long ∙ long; size = omega (arith, whole-long, head-long) })
 
     pub front-met : (l : ℕ) → fieldsBy o (suc l) k fs s ≡ fieldsBy o l k (addField fs (metField t c)) rest
     front-met l =

@@ -12,6 +12,7 @@ pub mod Laid
 pub mod Runs
 pub mod Ascent
 pub mod Rising
+pub mod RunBytes
 pub mod Sorted
 pub mod Slots
 pub mod Only

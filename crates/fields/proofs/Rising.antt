@@ -56,11 +56,11 @@ rising-more (suc n) t fs =
 
 -- other tags than these n are not there
 pub rising-other : (n t : ℕ) (fs : List Field) (u : ℕ) → (t ≤ u → u < t + n → ⊥) → hasTag u (rising n t fs) ≡ false
-rising-other zero t fs u differ = refl
-rising-other (suc n) t fs u differ = go (hasTag t fs) refl (rising-other n (suc t) fs u (λ a b. differ (omega arith) (omega arith)))
+rising-other zero t fs u out = refl
+rising-other (suc n) t fs u out = go (hasTag t fs) refl (rising-other n (suc t) fs u (λ a b. out (omega arith) (omega arith)))
   where
     go : (b : Bool) → hasTag t fs ≡ b → hasTag u (rising n (suc t) fs) ≡ false → hasTag u (rising (suc n) t fs) ≡ false
-    go true h ih = ap (hasTag u) (rising-there n t fs h) ∙ rw (ne-eqb u t (λ e. differ (omega arith) (omega arith))) ih
+    go true h ih = ap (hasTag u) (rising-there n t fs h) ∙ rw (ne-eqb u t (λ e. out (omega arith) (omega arith))) ih
     go false h ih = ap (hasTag u) (rising-absent n t fs h) ∙ ih
 
 -- what two lists of fields say of one tag is the same

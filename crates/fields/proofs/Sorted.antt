@@ -1,28 +1,27 @@
 -- An older file put in order is taken by the walk with the same fields; a file in order stays as it is; files with the same fields are the same bytes.
 -- Assumes nothing.
-use mathlib.Core.Path.{_≡_, refl, sym, ap, ap₂, subst, subst₂, _∙_}
+use mathlib.Core.Path.{_≡_, refl, sym, ap, subst, subst₂, _∙_}
 use mathlib.Core.Logic.{_↔_, ⊎-elim}
 use mathlib.Core.Bool.{Bool, true, false, _&&_}
 use mathlib.Core.List.{List, [], _∷_, _++_}
-use Prim.Native.Nat.{ℕ, zero, suc, _+_, _*_, _/_, _%_, _≤_, _<_}
+use Prim.Native.Nat.{ℕ, zero, suc, _+_, _≤_, _<_}
 use native.Mathlib.Omega.{arith}
 use lib.Dec.{ltb, leb}
-use lib.ListN.{length, getD, take, drop, length-drop, take-append-drop}
-use lib.Seq.{length-take-le, drop-drop}
+use lib.ListN.{length, getD, drop}
 use borrow.Author.Tests.{eq-eqb, ne-eqb, ltb-true, ltb-false, leb-true, leb-false, le-ltb, lt-ltb, le-leb, lt-leb}
-use Rattle.finite.proofs.Tests.{not-both, and-left, and-right, and-both, not-true-false, equal-or-not}
+use Rattle.finite.proofs.Tests.{not-both, and-right, and-both, not-true-false, equal-or-not}
 use Rattle.fields.specs.Files.{Field, Walk, walk, tagOk, longOk, hasTag, contentOf, addField, allThere, headLong, lastTag, fieldAt, walkBy, walkAll, oldWalk, field}
 use Rattle.fields.specs.Rules.{firstTag}
 use Rattle.fields.specs.Writing.{allBytes}
 use Rattle.fields.specs.Ordering.{rising, sorted, bytesIn, isShapeFile, orderedBytes, SameFields, ascends, Taken, Tag-order}
 use Rattle.fields.proofs.Agree.{tag-from}
 use Rattle.fields.proofs.Added.{has-other, last-add}
-use Rattle.fields.proofs.Bytes.{bytes-drop}
 use Rattle.fields.proofs.FrontField.{metField, front-field, front-rest, front-fault}
 use Rattle.fields.proofs.Fronts.{front-says}
 use Rattle.fields.proofs.Laid.{LaidOut, TagsOk, all-laid, all-tags}
-use Rattle.fields.proofs.Turns.{passed-by, content-size, older-few}
+use Rattle.fields.proofs.Turns.{passed-by, older-few}
 use Rattle.fields.proofs.Runs.{Run, ended, met, addAll, all-append, Whole, run-answer, whole-of}
+use Rattle.fields.proofs.RunBytes.{run-long, run-bytes}
 use Rattle.fields.proofs.Ascent.{walks-same, run-ascends, run-in-order}
 use Rattle.fields.proofs.Rising.{rising-there, rising-absent, rising-none, rising-same, SameAt, absent-same, rising-other, rising-at, rising-up, rising-fixed, rising-add, bytes-cons-long}
 
@@ -58,20 +57,20 @@ module _ (k : Bool) (fs : List Field) (tags : TagsOk k fs) (laid : LaidOut k fs)
           subst (λ (r : List Field). Run true k acc (bytesIn r) r) (sym (rising-absent n t fs h)) (ih acc (omega arith) (λ u m. a u (omega arith)))
 
 -- ---- sorted fields are the same fields
-first-some : (k : Bool) → 0 < firstTag k
-first-some true = omega arith
-first-some false = omega arith
+first-positive : (k : Bool) → 0 < firstTag k
+first-positive true = omega arith
+first-positive false = omega arith
 
 module _ (k : Bool) (fs : List Field) (tags : TagsOk k fs) where
   -- a tag that the file may not have is not there
   outside : (u : ℕ) → (firstTag k ≤ u → u < firstTag k + 6 → ⊥) → hasTag u fs ≡ false
-  outside u n = not-true-false (hasTag u fs) (λ h. let b = tag-from k u (tags u h) in n (b .0) (b .1))
+  outside u out = not-true-false (hasTag u fs) (λ h. let b = tag-from k u (tags u h) in out (b .0) (b .1))
 
   same-at : (u : ℕ) → SameAt u (sorted k fs) fs
   same-at u = go (leb (firstTag k) u) refl (ltb u (firstTag k + 6)) refl
     where
       other : (firstTag k ≤ u → u < firstTag k + 6 → ⊥) → SameAt u (sorted k fs) fs
-      other differ = absent-same u (sorted k fs) fs (rising-other 6 (firstTag k) fs u differ) (outside u differ)
+      other out = absent-same u (sorted k fs) fs (rising-other 6 (firstTag k) fs u out) (outside u out)
 
       go : (a : Bool) → leb (firstTag k) u ≡ a → (b : Bool) → ltb u (firstTag k + 6) ≡ b → SameAt u (sorted k fs) fs
       go true p true q = rising-at 6 (firstTag k) fs u (leb-true (firstTag k) u p) (ltb-true u (firstTag k + 6) q)
@@ -85,21 +84,8 @@ there-same : (k : Bool) (fs gs : List Field) → ((t : ℕ) → hasTag t fs ≡ 
 there-same true fs gs h = rw (h 17, h 18, h 19, h 20)
 there-same false fs gs h = rw (h 1, h 2, h 3, h 4, h 5)
 
--- ---- the bytes of a run
+-- ---- sorting keeps the length
 module _ {o k : Bool} where
-  run-long : (fs : List Field) (s : List ℕ) (more : List Field) → Run o k fs s more → length (bytesIn more) ≡ length s
-  run-long fs s [] (ended z) = sym z
-  run-long fs s (f ∷ more) (met e r) =
-      omega (
-        arith,
-        bytes-cons-long (fieldAt s) more,
-        content-size s (passed-by o k fs s e .size),
-        passed-by o k fs s e .size,
-        length-drop (3 + headLong s) s,
-        run-long (addField fs (fieldAt s)) (drop (3 + headLong s) s) more r,
-      )
-
-  -- sorting keeps the length
   sorted-more : (fs : List Field) (s : List ℕ) (more : List Field) → Run o k fs s more → length (bytesIn (sorted k (addAll fs more))) ≡ length (bytesIn (sorted k fs)) + length (bytesIn more)
   sorted-more fs s [] (ended z) = omega arith
   sorted-more fs s (f ∷ more) (met e r) =
@@ -118,32 +104,6 @@ module _ {o k : Bool} where
       let a : length (bytesIn (sorted k more)) ≡ length (bytesIn (sorted k (addAll [] more))) = ap (λ (x : List Field). length (bytesIn (sorted k x))) (sym e) in
       let n : length (bytesIn (sorted k [])) ≡ 0 = ap (λ (x : List Field). length (bytesIn x)) (rising-none 6 (firstTag k)) in
       omega (arith, a, n, sorted-more [] s more r, run-long [] s more r)
-
--- a field's bytes and what is behind it
-front-bytes : (s : List ℕ) → 3 + headLong s ≤ length s → allBytes s ≡ true → field (getD s 0 0) (fieldAt s .content) ++ drop (3 + headLong s) s ≡ s
-front-bytes [] h b = absurd (omega arith)
-front-bytes (x ∷ []) h b = absurd (omega arith)
-front-bytes (x ∷ (y ∷ [])) h b = absurd (omega arith)
-front-bytes (x ∷ (y ∷ (z ∷ s))) h b =
-    let b1 = and-right (ltb x 256) _ b in
-    let b2 = and-right (ltb y 256) _ b1 in
-    let low : z < 256 = ltb-true z 256 (and-left (ltb z 256) _ b2) in
-    let n = 256 * y + z in
-    let long : length (take n s) ≡ n = length-take-le n s (omega arith) in
-    let high : length (take n s) / 256 ≡ y = omega arith in
-    let rest : length (take n s) % 256 ≡ z = omega arith in
-    let behind : drop (3 + n) (x ∷ (y ∷ (z ∷ s))) ≡ drop n s = sym (drop-drop n 3 (x ∷ (y ∷ (z ∷ s)))) in
-    ap₂ (λ (u v : ℕ). x ∷ (u ∷ (v ∷ (take n s ++ drop (3 + n) (x ∷ (y ∷ (z ∷ s))))))) high rest
-    ∙ ap (λ (l : List ℕ). x ∷ (y ∷ (z ∷ (take n s ++ l)))) behind
-    ∙ ap (λ (l : List ℕ). x ∷ (y ∷ (z ∷ l))) (take-append-drop n s)
-
-module _ {o k : Bool} where
-  run-bytes : (fs : List Field) (s : List ℕ) (more : List Field) → Run o k fs s more → allBytes s ≡ true → bytesIn more ≡ s
-  run-bytes fs [] [] (ended z) b = refl
-  run-bytes fs (x ∷ s) [] (ended z) b = absurd (omega arith)
-  run-bytes fs s (f ∷ more) (met e r) b =
-      ap (λ (l : List ℕ). field (getD s 0 0) (fieldAt s .content) ++ l) (run-bytes (addField fs (fieldAt s)) (drop (3 + headLong s) s) more r (bytes-drop (3 + headLong s) s b))
-      ∙ front-bytes s (passed-by o k fs s e .size) b
 
 -- ---- which file it is shows in the first byte
 none-there : (k : Bool) → allThere k [] ≡ true → ⊥
@@ -240,13 +200,13 @@ module _ (k : Bool) (s : List ℕ) where
 
     sorted-walked : walkAll k (bytesIn (sorted k fs)) ≡ walk 0 (sorted k fs)
     sorted-walked =
-        run-answer true k (bytesIn (sorted k fs)) (sorted k fs) (run-rising k fs (all-tags false k s) (all-laid false k s) 6 (firstTag k) [] (first-some k) (λ u l. refl)) sorted-there
+        run-answer true k (bytesIn (sorted k fs)) (sorted k fs) (run-rising k fs (all-tags false k s) (all-laid false k s) 6 (firstTag k) [] (first-positive k) (λ u l. refl)) sorted-there
 
     pub sorted-size : length (bytesIn (sorted k fs)) ≡ length s
     sorted-size = ap (λ (x : List Field). length (bytesIn (sorted k x))) (fields-of false v) ∙ sorted-long s (v .more) (v .run)
 
     sorted-rises : ascends 0 (sorted k fs) ≡ true
-    sorted-rises = rising-up 6 (firstTag k) fs 0 (first-some k)
+    sorted-rises = rising-up 6 (firstTag k) fs 0 (first-positive k)
 
 older-taken : (s : List ℕ) → oldWalk (isShapeFile s) s .number ≡ 0 → Taken s
 older-taken s e =

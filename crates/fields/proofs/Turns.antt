@@ -58,6 +58,11 @@ passed k met below r e =
       size = ltb-false (length r) (3 + headLong r) (when-none (ltb (length r) (3 + headLong r)) 4 e5);
     }
 
+-- and one of which this holds has no fault
+pub no-fault : (k met below : Bool) (r : List ℕ) → Passed k met below r → faultWhere k met below r ≡ 0
+no-fault k met below r p =
+    simp (le-ltb (length r) 3 (omega (arith, p .size)), p .tag, p .new, p .above, p .long, le-ltb (length r) (3 + headLong r) (p .size))
+
 -- its content is as long as its head says
 pub content-size : (s : List ℕ) → 3 + headLong s ≤ length s → length (fieldAt s .content) ≡ headLong s
 content-size s h = length-take-le (headLong s) (drop 3 s) (omega (arith, length-drop 3 s))
