@@ -1,11 +1,13 @@
-//! The best shapes of document 01's plates, and verdicts on other shapes of P1. The shapes expected are document 01's; the verdicts were worked out by hand.
+//! The best shapes of document 01's plates, best shapes within limits and by prices, and verdicts on other shapes of P1. The shapes expected are document 01's, P6 straight; those with limits and prices were found by trying all; the verdicts were worked out by hand.
 ghost use mathlib.Core.Path.{_≡_};
 ghost use Prim.Native.Nat.{_%_, _≤_};
 ghost use lib.ListN.{length};
 use embedding::read_plate;
 use libc::STDOUT_FILENO;
 use shapes::best::best;
+use shapes::best::best_by;
 use shapes::judge::judge;
+use shapes::rates::prices_ok;
 
 // Writes numbers behind a word.
 fn show_counts(word: &[u8], darts: usize, counts: [u8; 256])
@@ -38,6 +40,86 @@ fn show(label: &[u8], posts: u8, ends: &[u8], order: &[u8], outer: u8)
     show_counts(b" rights", ends.len(), rights);
     show_counts(b" angles", ends.len(), angles);
     io::write_all(STDOUT_FILENO, b"\n");
+}
+
+// Writes a line: the label, and the bends, the right bends and the angles by dart of the best shape within limits and by prices.
+fn show_by(
+    label: &[u8],
+    posts: u8,
+    ends: &[u8],
+    order: &[u8],
+    outer: u8,
+    limits: &[u8],
+    prices: &[u8],
+)
+    requires { ⌜ (length (now ends) ≤ 256) × (length (now ends) % 2 ≡ 0) × (length (now order) ≤ 256) ⌝ }
+{
+    io::write_all(STDOUT_FILENO, label);
+    let r = read_plate(posts, ends, order, outer);
+    if r.number != 0 {
+        io::write_all(STDOUT_FILENO, b" refused\n");
+        return;
+    }
+    if !prices_ok(prices) {
+        io::write_all(STDOUT_FILENO, b" prices refused\n");
+        return;
+    }
+    let a = best_by(r.plate, limits, prices);
+    if !a.found {
+        io::write_all(STDOUT_FILENO, b" no shape\n");
+        return;
+    }
+    let s = a.shape;
+    let rights = s.rights;
+    let angles = s.angles;
+    io::write_all(STDOUT_FILENO, b" bends ");
+    io::print_decimal(STDOUT_FILENO, s.total as u64);
+    show_counts(b" rights", ends.len(), rights);
+    show_counts(b" angles", ends.len(), angles);
+    io::write_all(STDOUT_FILENO, b"\n");
+}
+
+// P1 within limits and by prices.
+fn p1_by(label: &[u8], limits: &[u8], prices: &[u8]) {
+    show_by(
+        label,
+        2,
+        b"\x00\x01\x00\x01",
+        b"\x00\x02\x01\x03",
+        1,
+        limits,
+        prices,
+    );
+}
+
+fn p7_by(label: &[u8], limits: &[u8], prices: &[u8]) {
+    show_by(
+        label,
+        2,
+        b"\x00\x01\x00\x01\x00\x01",
+        b"\x00\x02\x04\x05\x03\x01",
+        1,
+        limits,
+        prices,
+    );
+}
+
+fn rated_to_try() {
+    // One bend for each strip.
+    p1_by(b"P1, limits 1 1", b"\x01\x01", b"");
+    p1_by(b"P1, limits 1 0", b"\x01\x00", b"");
+    p1_by(b"P1, limits 255 0", b"\xff\x00", b"");
+    p1_by(b"P1, prices 1 100", b"", b"\x01\x64");
+    p1_by(b"P1, prices 1 0", b"", b"\x01\x00");
+    p1_by(b"P1, prices 1 101", b"", b"\x01\x65");
+}
+
+fn more_rated_to_try() {
+    p7_by(b"P7, limit 1", b"\x01", b"");
+    p7_by(b"P7, limits 1 255 1", b"\x01\xff\x01", b"");
+    // More bends cost less.
+    p7_by(b"P7, prices 9 1 1", b"", b"\x09\x01\x01");
+    p7_by(b"P7, limit 1, prices 1 9 1", b"\x01", b"\x01\x09\x01");
 }
 
 // The verdict on a shape of P1 with these angles and right bends.
@@ -163,6 +245,8 @@ fn main() {
     shapes_to_try();
     more_shapes_to_try();
     strips_to_itself();
+    rated_to_try();
+    more_rated_to_try();
     verdicts();
     verdicts_on_sums();
 }

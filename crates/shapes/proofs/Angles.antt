@@ -25,7 +25,7 @@ when-le true x = omega arith
 when-le false x = omega arith
 
 -- a number by post, asked where the post is v
-when-at : (g : ℕ → ℕ) (u v : ℕ) (b : Bool) → eqb u v ≡ b → when b (g u) ≡ when b (g v)
+pub when-at : (g : ℕ → ℕ) (u v : ℕ) (b : Bool) → eqb u v ≡ b → when b (g u) ≡ when b (g v)
 when-at g u v true e = ap g (eqb-true u v e)
 when-at g u v false e = refl
 

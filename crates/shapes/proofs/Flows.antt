@@ -1,5 +1,5 @@
 -- The flows of a plate's network are those that `isFlow` tests.
-use mathlib.Core.Path.{_≡_, sym, ap, subst, _∙_}
+use mathlib.Core.Path.{_≡_, sym, subst, _∙_}
 use mathlib.Core.Bool.{Bool, true, false}
 use mathlib.Core.List.{List, _++_}
 use mathlib.Core.Logic.{_⊎_, inl, inr, _↔_}
@@ -116,6 +116,3 @@ module _ (p : Plate) (o : Ordered p) (y : List ℕ) (f : Flow (networkOf p) y) w
 
   pub parted-flow : isFlow p (drop (darts p) y) (take (darts p) y) ≡ true
   parted-flow = flow-is-flow p o (take (darts p) y) (drop (darts p) y) units-long (subst (λ (z : List ℕ). Flow (networkOf p) z) (sym (take-append-drop (darts p) y)) f)
-
-  pub parted-cost : costOf (networkOf p .costs) y ≡ total (take (darts p) y)
-  parted-cost = ap (costOf (networkOf p .costs)) (sym (take-append-drop (darts p) y)) ∙ flow-cost p o (take (darts p) y) (drop (darts p) y) units-long

@@ -28,10 +28,10 @@ module _ (p : Plate) (o : Ordered p) (ys : List ℕ) where
   abbrev pub straightened : List ℕ
   straightened = table (darts p) (λ d. getD ys d 0 - both d)
 
-  both-twin : (d : ℕ) → both (twin d) ≡ both d
+  pub both-twin : (d : ℕ) → both (twin d) ≡ both d
   both-twin d = omega (arith, ap (λ (e : ℕ). getD ys e 0) (twin-twin d))
 
-  less : (d : ℕ) → d < darts p → getD straightened d 0 + both d ≡ getD ys d 0
+  pub less : (d : ℕ) → d < darts p → getD straightened d 0 + both d ≡ getD ys d 0
   less d l = omega (arith, getD-table (darts p) (λ d. getD ys d 0 - both d) d l)
 
   goes-less : (ds : List ℕ) → allBelow (darts p) ds ≡ true → goesOut ds straightened + sumOver ds both ≡ goesOut ds ys
@@ -66,7 +66,7 @@ module _ (p : Plate) (o : Ordered p) (ys : List ℕ) where
           balanced-is p cs straightened d
           ∙ eq-eqb (gone p cs straightened d) (come p cs straightened d) (omega (arith, goes-less (faceOf p d) (face-all-below p o d l), comes-less (faceOf p d) (face-all-below p o d l)))
 
-  straight-total : length ys ≡ darts p → total straightened + sumBelow (darts p) both ≡ total ys
+  pub straight-total : length ys ≡ darts p → total straightened + sumBelow (darts p) both ≡ total ys
   straight-total e =
       omega (
         arith,
@@ -78,6 +78,8 @@ module _ (p : Plate) (o : Ordered p) (ys : List ℕ) where
         sum-cong (darts p) (λ d. getD straightened d 0 + both d) (λ d. getD ys d 0) less,
       )
 
+  pub never-both-if : length ys ≡ darts p → total ys ≤ total straightened → (d : ℕ) → d < darts p → both d ≡ 0
+  never-both-if e cheapest d l = omega (arith, straight-total e, cheapest, sum-has (darts p) both d l)
+
   pub never-both : (cs : List ℕ) → isFlow p cs ys ≡ true → ((zs : List ℕ) → isFlow p cs zs ≡ true → total ys ≤ total zs) → (d : ℕ) → d < darts p → both d ≡ 0
-  never-both cs e cheapest d l =
-      omega (arith, straight-total (is-flow-facts p cs ys e .units-long), cheapest straightened (straight-flow cs e), sum-has (darts p) both d l)
+  never-both cs e cheapest = never-both-if (is-flow-facts p cs ys e .units-long) (cheapest straightened (straight-flow cs e))

@@ -1,17 +1,15 @@
 -- Lists in two parts and lists by a rule, and the flow sums over them.
 use mathlib.Core.Path.{_≡_, refl, ap, subst, _∙_}
-use mathlib.Core.Bool.{Bool, _&&_, not}
 use mathlib.Core.List.{List, [], _∷_, _++_, map}
 use Prim.Native.Nat.{ℕ, zero, suc, _+_, _-_, _<_}
 use native.Mathlib.Decide.{decLt}
 use native.Mathlib.Nat.{le-of-suc-le-suc}
 use native.Mathlib.Omega.{arith}
 use lib.Dec.{eqb}
-use lib.ListN.{length, getD, replicate, length-append, length-replicate, getD-replicate, length-map, List·getD-append}
+use lib.ListN.{length, getD, replicate, length-replicate, getD-replicate, List·getD-append}
 use lib.Seq.{getD-append-add}
-use Rattle.finite.proofs.Sums.{sum-split, sumBelow, sumOver, sum-cong}
-use Rattle.flow.specs.Network.{when, unitsAt, total, costOf, within, held, crossing}
-use Rattle.flow.proofs.Units.{held-sum}
+use Rattle.finite.proofs.Sums.{sumBelow, sumOver}
+use Rattle.flow.specs.Network.{when, unitsAt, total, costOf}
 use Rattle.shapes.specs.NetworkOf.{table}
 
 pub length-table : (n : ℕ) (f : ℕ → ℕ) → length (table n f) ≡ n
@@ -87,37 +85,3 @@ total-replicate (suc n) c = omega (arith, total-replicate n c)
 pub total-map : (f : ℕ → ℕ) (xs : List ℕ) → total (map f xs) ≡ sumOver xs f
 total-map f [] = refl
 total-map f (x ∷ xs) = omega (arith, total-map f xs)
-
-module _ (s : List Bool) where
-  pub crossing-append : (ts us hs gs xs ys : List ℕ) → length ts ≡ length hs → length hs ≡ length xs
-      → crossing s (ts ++ us) (hs ++ gs) (xs ++ ys) ≡ crossing s ts hs xs + crossing s us gs ys
-  crossing-append [] us [] gs [] ys p q = omega arith
-  crossing-append [] us [] gs (x ∷ xs) ys p q = omega arith
-  crossing-append [] us (h ∷ hs) gs xs ys p q = omega arith
-  crossing-append (t ∷ ts) us [] gs xs ys p q = omega arith
-  crossing-append (t ∷ ts) us (h ∷ hs) gs [] ys p q = omega arith
-  crossing-append (t ∷ ts) us (h ∷ hs) gs (x ∷ xs) ys p q = omega (arith, crossing-append ts us hs gs xs ys (omega arith) (omega arith))
-
-  pub crossing-table : (n : ℕ) (f g : ℕ → ℕ) (c : ℕ)
-      → crossing s (table n f) (table n g) (replicate n c) ≡ sumBelow n (λ d. when (within s (f d) && not (within s (g d))) c)
-  crossing-table zero f g c = refl
-  crossing-table (suc n) f g c = omega (arith, crossing-table n (λ i. f (suc i)) (λ i. g (suc i)) c)
-
-  pub held-parts : (n c : ℕ) (f : ℕ → ℕ) (xs : List ℕ)
-      → held s (replicate n c ++ map f xs) ≡ sumBelow n (λ v. when (within s v) c) + sumBelow (length xs) (λ i. when (within s (n + i)) (f (getD xs i 0)))
-  held-parts n c f xs =
-      omega (
-        arith,
-        held-sum s all,
-        ap (λ (k : ℕ). sumBelow k (λ v. when (within s v) (getD all v 0))) long,
-        sum-split n (length xs) (λ v. when (within s v) (getD all v 0)),
-        sum-cong n (λ v. when (within s v) (getD all v 0)) (λ v. when (within s v) c) (λ v l. ap (when (within s v)) (getD-first (replicate n c) (map f xs) n (length-replicate n c) v l ∙ getD-replicate n v c 0 l)),
-        sum-cong (length xs) (λ i. when (within s (n + i)) (getD all (n + i) 0)) (λ i. when (within s (n + i)) (f (getD xs i 0)))
-            (λ i l. ap (when (within s (n + i))) (getD-second (replicate n c) (map f xs) n (length-replicate n c) i ∙ getD-map-in f xs i l)),
-      )
-    where
-      all : List ℕ
-      all = replicate n c ++ map f xs
-
-      long : length all ≡ n + length xs
-      long = simp (length-append, length-replicate, length-map)

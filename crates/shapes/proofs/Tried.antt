@@ -12,12 +12,12 @@ use Rattle.embedding.specs.Plates.{pick, darts, plateFault}
 use Rattle.shapes.specs.Shapes.{meets, bends}
 use Rattle.shapes.specs.Turns.{turnSum}
 use Rattle.shapes.specs.Claims.{Best, Accepted, isFlow}
-use Rattle.shapes.specs.NetworkOf.{networkOf}
+use Rattle.shapes.specs.Rates.{unrated}
+use Rattle.shapes.specs.NetworkOf.{isJoint, ratedOf}
 use Rattle.shapes.specs.Tried.{Row, loop, rows, given, rowHolds, rowsHold, rowsBest, f0, f1, f2}
-use Rattle.shapes.proofs.Accepted.{ordered, sound}
-use Rattle.shapes.proofs.FlowFacts.{is-flow-parts}
-use Rattle.shapes.proofs.Flows.{is-flow-flow}
-use Rattle.shapes.proofs.LeastShape.{least-best}
+use Rattle.shapes.proofs.Apart.{apart}
+use Rattle.shapes.proofs.Unpriced.{fair-unpriced, unrated-flow, unrated-best}
+use Rattle.shapes.proofs.Accepted.{faultless, ordered, sound-by}
 
 -- P1 to P8, and the strip from a post to itself
 pub table-holds : rowsHold rows ≡ true
@@ -34,24 +34,35 @@ row-says r e z =
 
 -- ---- the best shapes
 
+-- what a bend and a cornered post cost
+abbrev bend : ℕ
+bend = 4294967297
+
+abbrev corner : ℕ
+corner = 65536
+
 -- the network's potentials of posts and faces, row by row; P8 has no shape
 abbrev potentials : List (List ℕ)
 potentials =
-    (1 ∷ 1 ∷ 0 ∷ 1 ∷ [])
-    ∷ (1 ∷ 1 ∷ 1 ∷ 0 ∷ 1 ∷ [])
-    ∷ (0 ∷ 0 ∷ 0 ∷ 0 ∷ 0 ∷ 0 ∷ [])
+    (0 ∷ 0 ∷ 0 ∷ bend ∷ [])
+    ∷ (0 ∷ 0 ∷ 0 ∷ 0 ∷ bend ∷ [])
+    ∷ (0 ∷ 0 ∷ 0 ∷ 0 ∷ 0 ∷ corner ∷ [])
     ∷ (0 ∷ 0 ∷ 0 ∷ [])
     ∷ (0 ∷ 0 ∷ 0 ∷ 0 ∷ 0 ∷ 0 ∷ [])
     ∷ (0 ∷ 0 ∷ 0 ∷ 0 ∷ [])
-    ∷ (1 ∷ 1 ∷ 0 ∷ 1 ∷ 0 ∷ [])
+    ∷ (bend ∷ bend ∷ 0 ∷ bend ∷ 0 ∷ [])
     ∷ []
-    ∷ (1 ∷ 0 ∷ 1 ∷ [])
+    ∷ (0 ∷ 0 ∷ bend ∷ [])
     ∷ []
+
+-- a row's right bends, and its angles on the two arcs of each corner
+abbrev flowOf : Row → List ℕ
+flowOf r = r .rights ++ apart (isJoint (r .tried)) (darts (r .tried)) (r .angles)
 
 abbrev isLeast : Row → List ℕ → Bool
 isLeast r pot =
     let p = r .tried in
-    eqb (plateFault p) 0 && (eqb (darts p % 2) 0 && (isFlow p (r .angles) (r .rights) && certified (networkOf p) pot (r .rights ++ r .angles)))
+    eqb (plateFault p) 0 && (eqb (darts p % 2) 0 && (isFlow p (r .angles) (r .rights) && certified (ratedOf p unrated) pot (flowOf r)))
 
 abbrev areLeast : List Row → List (List ℕ) → Bool
 areLeast [] pots = true
@@ -61,13 +72,12 @@ areLeast (r ∷ rs) (pot ∷ pots) = (not (eqb (r .fault) 0) || isLeast r pot) &
 row-best : (r : Row) (pot : List ℕ) → isLeast r pot ≡ true → Best (r .tried) (given r)
 row-best r pot e =
     let p = r .tried in
-    let x = r .rights ++ r .angles in
     let first = and-parts (eqb (plateFault p) 0) _ e in
     let second = and-parts (eqb (darts p % 2) 0) _ (first .1) in
-    let third = and-parts (isFlow p (r .angles) (r .rights)) (certified (networkOf p) pot x) (second .1) in
+    let third = and-parts (isFlow p (r .angles) (r .rights)) (certified (ratedOf p unrated) pot (flowOf r)) (second .1) in
     let a : Accepted p = record { no-fault = eqb-true (plateFault p) 0 (first .0); even-darts = eqb-true (darts p % 2) 0 (second .0) } in
-    let flow = is-flow-flow p (ordered p a) (r .rights) (r .angles) (third .0) in
-    least-best p (ordered p a) (r .rights) (r .angles) (is-flow-parts p (r .angles) (r .rights) (third .0) .1) (certified-least (networkOf p) pot x (third .1) (sound p a) flow)
+    unrated-best p (faultless p a) (ordered p a) (r .angles) (r .rights) (third .0)
+    (certified-least (ratedOf p unrated) pot (flowOf r) (third .1) (sound-by p a unrated (fair-unpriced [])) (unrated-flow p (ordered p a) (r .angles) (r .rights) (third .0)))
 
 rows-best : (rs : List Row) (pots : List (List ℕ)) → areLeast rs pots ≡ true → rowsBest rs
 rows-best [] pots e = tt

@@ -15,7 +15,7 @@ use Rattle.shapes.specs.Shapes.{Shape, meets, bends, comesFirst, rightsO
 pub record Best (p : Plate) (s : Shape) : Type 0 where
   pub meets-all : meets p s ≡ true
   pub fewest : (u : Shape) → meets p u ≡ true → bends s ≤ bends u
-  pub first : (u : Shape) → meets p u ≡ true → bends u ≡ bends s → (u ≡ s) ⊎ (comesFirst s u ≡ true)
+  pub first : (u : Shape) → meets p u ≡ true → bends u ≡ bends s → (u ≡ s) ⊎ (comesFirst p s u ≡ true)
 
 -- a plate as an accepted list gives it: no fault, and two darts to a strip
 pub record Accepted (p : Plate) : Type 0 where

@@ -4,7 +4,7 @@ use mathlib.Core.List.{List, [], _∷_}
 use Prim.Native.Nat.{ℕ, zero, suc, _+_}
 use lib.Dec.{eqb, ltb, leb}
 use lib.ListN.{length, getD, drop}
-use Rattle.embedding.specs.Plates.{pick, when, isIn, Plate, darts, strips, twin, endsAt, faces, faceOf}
+use Rattle.embedding.specs.Plates.{pick, when, isIn, Plate, darts, strips, twin, endsAt, degree, faces, faceOf}
 pub use Rattle.finite.specs.Base.{total, smaller}
 
 -- a word of bends: true right, false left
@@ -94,15 +94,33 @@ rightsOf (w ∷ ws) = rights w ∷ rightsOf ws
 abbrev pub bends : Shape → ℕ
 bends s = total (rightsOf (s .words))
 
--- among equal totals: right bends of darts in turn, then angles
+-- angles of 2 at the darts ending at a post
+abbrev pub straightsFrom : ℕ → ℕ → Plate → ℕ → List ℕ → ℕ
+straightsFrom zero d p v al = 0
+straightsFrom (suc n) d p v al = when (eqb (endsAt p d) v) (when (eqb (getD al d 0) 2) 1) + straightsFrom n (suc d) p v al
+
+-- a post with exactly two strip ends and no angle of 2
+abbrev pub isCornered : Plate → List ℕ → ℕ → Bool
+isCornered p al v = eqb (degree p v) 2 && eqb (straightsFrom (darts p) 0 p v al) 0
+
+abbrev pub corneredFrom : ℕ → ℕ → Plate → List ℕ → ℕ
+corneredFrom zero v p al = 0
+corneredFrom (suc n) v p al = when (isCornered p al v) 1 + corneredFrom n (suc v) p al
+
+abbrev pub cornered : Plate → Shape → ℕ
+cornered p s = corneredFrom (p .posts) 0 p (s .angles)
+
+-- among equal totals: the fewest cornered posts, then right bends of darts in turn, then angles
 abbrev pub same : List ℕ → List ℕ → Bool
 same [] [] = true
 same [] (y ∷ ys) = false
 same (x ∷ xs) [] = false
 same (x ∷ xs) (y ∷ ys) = eqb x y && same xs ys
 
-abbrev pub comesFirst : Shape → Shape → Bool
-comesFirst s u = let a = rightsOf (s .words) in let b = rightsOf (u .words) in ltb (bends s) (bends u) || (eqb (bends s) (bends u) && (smaller a b || (same a b && smaller (s .angles) (u .angles))))
+abbrev pub comesFirst : Plate → Shape → Shape → Bool
+comesFirst p s u = let a = rightsOf (s .words) in let b = rightsOf (u .words) in
+    ltb (bends s) (bends u) || (eqb (bends s) (bends u) && (
+    ltb (cornered p s) (cornered p u) || (eqb (cornered p s) (cornered p u) && (smaller a b || (same a b && smaller (s .angles) (u .angles))))))
 
 -- shapes as files have them: angles and right bends; the word of dart 2i is its right bends, then its left ones
 abbrev pub someTrue : ℕ → List Bool

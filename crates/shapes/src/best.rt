@@ -7,8 +7,9 @@ ghost use Rattle.finite.specs.Tables.{Table};
 ghost use Rattle.embedding.specs.Plates.{Plate as PlateOf};
 ghost use Rattle.embedding.specs.Read.{Stands};
 ghost use Rattle.shapes.specs.Claims.{Standing, Accepted};
+ghost use Rattle.shapes.specs.Rates.{rates, Fair, pairSums};
 ghost use Rattle.shapes.specs.Entries.{Lent};
-ghost use Rattle.shapes.specs.BestOf.{BestHeld, Small, Taken};
+ghost use Rattle.shapes.specs.BestOf.{BestHeld, Answers, Blank, Paired, Small, Taken};
 use crate::network::lay_network;
 use embedding::Plate;
 use flow::solve::solve;
@@ -18,6 +19,12 @@ pub struct BestShape {
     pub angles: [u8; 256],
     pub rights: [u8; 256],
     pub total: u32,
+}
+
+// The best shape within the limits, or that no shape keeps them; then all its numbers are 0.
+pub struct BestAnswer {
+    pub found: bool,
+    pub shape: BestShape,
 }
 
 // Numbers that fit a byte each.
@@ -55,13 +62,29 @@ fn total_bends(rights: &[u16]) -> u32
     sum
 }
 
+// The two units of each corner together.
+fn corners_of(units: &[u16], darts: usize) -> [u8; 256]
+    requires { ⌜ Paired darts (now units) ⌝ }
+    ensures { λ r. ⌜ Table 256 (λ i. getD (pairSums (now (units .entry))) i 0) r ⌝ }
+{
+    let mut bytes = [0u8; 256];
+    let mut d = 0;
+    while d < darts {
+        let low = units[d + d];
+        let high = units[d + d + 1];
+        bytes[d] = low as u8 + high as u8;
+        d += 1;
+    }
+    bytes
+}
+
 // The units of the darts are right bends, those of the corners angles.
 fn take_shape(darts: usize, x: &[u16]) -> BestShape
     requires { ⌜ Small darts (now x) ⌝ }
     ensures { λ r. ⌜ Taken darts (now (x .entry)) r ⌝ }
 {
     let rights = bytes_of(&x[..darts]);
-    let angles = bytes_of(&x[darts..]);
+    let angles = corners_of(&x[darts..], darts);
     let total = total_bends(&x[..darts]);
     BestShape {
         angles,
@@ -70,9 +93,21 @@ fn take_shape(darts: usize, x: &[u16]) -> BestShape
     }
 }
 
-// The best shape, in lent space: lists by arc and by node. An accepted plate's network has a flow.
+fn no_shape() -> BestShape
+    ensures { λ r. ⌜ Blank r ⌝ }
+{
+    BestShape {
+        angles: [0u8; 256],
+        rights: [0u8; 256],
+        total: 0,
+    }
+}
+
+// The answer, in lent space: lists by arc and by node.
 fn best_in(
     q: Plate,
+    limits: &[u8],
+    prices: &[u8],
     tails: &mut [u8],
     heads: &mut [u8],
     lowers: &mut [u16],
@@ -81,33 +116,52 @@ fn best_in(
     supplies: &mut [u16],
     demands: &mut [u16],
     x: &mut [u16],
-) -> BestShape
-    requires { ⌜ Standing q × Lent q (now tails) (now heads) (now lowers) (now uppers) (now costs) (now supplies) (now demands) × (length (now x) ≡ q .darts + q .darts) ⌝ }
-    ensures { λ r. ⌜ ((p : PlateOf) → Stands q p → Accepted p → BestHeld p r) ⌝ }
+) -> BestAnswer
+    requires { ⌜ Standing q × Fair (rates (now limits) (now prices)) × Lent q (now tails) (now heads) (now lowers) (now uppers) (now costs) (now supplies) (now demands) × (length (now x) ≡ q .darts + (q .darts + q .darts)) ⌝ }
+    ensures { λ r. ⌜ ((p : PlateOf) → Stands q p → Accepted p → Answers p (rates (now (limits .entry)) (now (prices .entry))) r) ⌝ }
 {
     let darts = q.darts;
-    lay_network(q, tails, heads, lowers, uppers, costs, supplies, demands);
-    let _is_solved = solve(tails, heads, lowers, uppers, costs, supplies, demands, x);
-    take_shape(darts, x)
+    lay_network(
+        q,
+        limits,
+        prices,
+        tails,
+        heads,
+        lowers,
+        uppers,
+        costs,
+        supplies,
+        demands,
+    );
+    if !solve(tails, heads, lowers, uppers, costs, supplies, demands, x) {
+        return BestAnswer {
+            found: false,
+            shape: no_shape(),
+        };
+    }
+    let shape = take_shape(darts, x);
+    BestAnswer { found: true, shape }
 }
 
-// The best shape of an accepted plate.
-pub fn best(q: Plate) -> BestShape
-    requires { ⌜ Standing q ⌝ }
-    ensures { λ r. ⌜ ((p : PlateOf) → Stands q p → Accepted p → BestHeld p r) ⌝ }
+// The best shape of an accepted plate within limits, by prices of bends: by strip, no limit and a price of 1 where the list is shorter.
+pub fn best_by(q: Plate, limits: &[u8], prices: &[u8]) -> BestAnswer
+    requires { ⌜ Standing q × Fair (rates (now limits) (now prices)) ⌝ }
+    ensures { λ r. ⌜ ((p : PlateOf) → Stands q p → Accepted p → Answers p (rates (now (limits .entry)) (now (prices .entry))) r) ⌝ }
 {
-    let arcs = q.darts + q.darts;
+    let arcs = q.darts + (q.darts + q.darts);
     let nodes = q.posts + q.faces;
-    let mut tails = [0u8; 512];
-    let mut heads = [0u8; 512];
-    let mut lowers = [0u16; 512];
-    let mut uppers = [0u16; 512];
-    let mut costs = [0u64; 512];
+    let mut tails = [0u8; 768];
+    let mut heads = [0u8; 768];
+    let mut lowers = [0u16; 768];
+    let mut uppers = [0u16; 768];
+    let mut costs = [0u64; 768];
     let mut supplies = [0u16; 130];
     let mut demands = [0u16; 130];
-    let mut x = [0u16; 512];
+    let mut x = [0u16; 768];
     best_in(
         q,
+        limits,
+        prices,
         &mut tails[..arcs],
         &mut heads[..arcs],
         &mut lowers[..arcs],
@@ -117,4 +171,13 @@ pub fn best(q: Plate) -> BestShape
         &mut demands[..nodes],
         &mut x[..arcs],
     )
+}
+
+// The best shape of an accepted plate: no limits, and each bend costs 1.
+pub fn best(q: Plate) -> BestShape
+    requires { ⌜ Standing q ⌝ }
+    ensures { λ r. ⌜ ((p : PlateOf) → Stands q p → Accepted p → BestHeld p r) ⌝ }
+{
+    let answer = best_by(q, b"", b"");
+    answer.shape
 }

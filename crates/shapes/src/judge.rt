@@ -13,7 +13,7 @@ use embedding::Plate;
 use embedding::twin_of;
 
 // The post or face of dart `d`.
-fn key_of(keys: &[u8], n: usize, d: usize) -> usize
+pub fn key_of(keys: &[u8], n: usize, d: usize) -> usize
     requires { ⌜ (d < length (now keys)) × (allBelow n (now keys) ≡ true) ⌝ }
     ensures { λ r. ⌜ (r ≡ getD (now (keys .entry)) d 0) × (r < n) ⌝ }
 {

@@ -1,128 +1,23 @@
--- `best`: the lent parts are as long as the arcs and the nodes.
-use mathlib.Core.Path.{sym}
-use Prim.Native.Nat.{_+_}
-use Rattle.flow.proofs.Fills.{part-long}
-use Rattle.shapes.proofs.Laid.{holds-few}
+-- `best`: no limits and no prices are fair, and then there is always a shape.
+use mathlib.Core.List.{[]}
+use Rattle.shapes.proofs.Unpriced.{fair-unpriced}
+use Rattle.shapes.proofs.Results.{found-best}
 use borrow.Author.Needs.{needs}
-use native.Mathlib.Omega.{arith}
 use Rattle.shapes.proofs.best.best.Statement.{statement}
 use Rattle.shapes.proofs.best.best.Tie as tie
 
-add-arcs : tie.Need-add-arcs
-add-arcs c = let s = c .before in omega (arith, holds-few (s .args .q) (s .pre))
+slice-aggregate-best-by : tie.Need-slice-aggregate-best-by
+slice-aggregate-best-by c = search needs
 
-add-nodes : tie.Need-add-nodes
-add-nodes c = let s = c .before .before in omega (arith, holds-few (s .args .q) (s .pre))
+slice-aggregate-best-by-2 : tie.Need-slice-aggregate-best-by-2
+slice-aggregate-best-by-2 c = search needs
 
-array-borrow-prefix-tails : tie.Need-array-borrow-prefix-tails
-array-borrow-prefix-tails c = let s = c .before .before in omega (arith, holds-few (s .args .q) (s .pre))
-
-slice-aggregate-best-in : tie.Need-slice-aggregate-best-in
-slice-aggregate-best-in c =
-    let s = c .before .before .before in
-    sym (part-long (s .args .q .darts + s .args .q .darts) 512 (omega (arith, holds-few (s .args .q) (s .pre))))
-
-array-borrow-prefix-heads : tie.Need-array-borrow-prefix-heads
-array-borrow-prefix-heads c =
-    let s = c .before .before .before in
-    omega (arith, holds-few (s .args .q) (s .pre))
-
-slice-aggregate-best-in-2 : tie.Need-slice-aggregate-best-in-2
-slice-aggregate-best-in-2 c =
-    let s = c .before .before .before .before in
-    sym (part-long (s .args .q .darts + s .args .q .darts) 512 (omega (arith, holds-few (s .args .q) (s .pre))))
-
-array-borrow-prefix-lowers : tie.Need-array-borrow-prefix-lowers
-array-borrow-prefix-lowers c =
-    let s = c .before .before .before .before in
-    omega (arith, holds-few (s .args .q) (s .pre))
-
-slice-aggregate-best-in-3 : tie.Need-slice-aggregate-best-in-3
-slice-aggregate-best-in-3 c =
-    let s = c .before .before .before .before .before in
-    sym (part-long (s .args .q .darts + s .args .q .darts) 512 (omega (arith, holds-few (s .args .q) (s .pre))))
-
-array-borrow-prefix-uppers : tie.Need-array-borrow-prefix-uppers
-array-borrow-prefix-uppers c =
-    let s = c .before .before .before .before .before in
-    omega (arith, holds-few (s .args .q) (s .pre))
-
-slice-aggregate-best-in-4 : tie.Need-slice-aggregate-best-in-4
-slice-aggregate-best-in-4 c =
-    let s = c .before .before .before .before .before .before in
-    sym (part-long (s .args .q .darts + s .args .q .darts) 512 (omega (arith, holds-few (s .args .q) (s .pre))))
-
-array-borrow-prefix-costs : tie.Need-array-borrow-prefix-costs
-array-borrow-prefix-costs c =
-    let s = c .before .before .before .before .before .before in
-    omega (arith, holds-few (s .args .q) (s .pre))
-
-slice-aggregate-best-in-5 : tie.Need-slice-aggregate-best-in-5
-slice-aggregate-best-in-5 c =
-    let s = c .before .before .before .before .before .before .before in
-    sym (part-long (s .args .q .darts + s .args .q .darts) 512 (omega (arith, holds-few (s .args .q) (s .pre))))
-
-array-borrow-prefix-supplies : tie.Need-array-borrow-prefix-supplies
-array-borrow-prefix-supplies c =
-    let s = c .before .before .before .before .before .before .before in
-    omega (arith, holds-few (s .args .q) (s .pre))
-
-slice-aggregate-best-in-6 : tie.Need-slice-aggregate-best-in-6
-slice-aggregate-best-in-6 c =
-    let s = c .before .before .before .before .before .before .before .before in
-    sym (part-long (s .args .q .posts + s .args .q .faces) 130 (omega (arith, holds-few (s .args .q) (s .pre))))
-
-array-borrow-prefix-demands : tie.Need-array-borrow-prefix-demands
-array-borrow-prefix-demands c =
-    let s = c .before .before .before .before .before .before .before .before in
-    omega (arith, holds-few (s .args .q) (s .pre))
-
-slice-aggregate-best-in-7 : tie.Need-slice-aggregate-best-in-7
-slice-aggregate-best-in-7 c =
-    let s = c .before .before .before .before .before .before .before .before .before in
-    sym (part-long (s .args .q .posts + s .args .q .faces) 130 (omega (arith, holds-few (s .args .q) (s .pre))))
-
-array-borrow-prefix-x : tie.Need-array-borrow-prefix-x
-array-borrow-prefix-x c =
-    let s = c .before .before .before .before .before .before .before .before .before in
-    omega (arith, holds-few (s .args .q) (s .pre))
-
-slice-aggregate-best-in-8 : tie.Need-slice-aggregate-best-in-8
-slice-aggregate-best-in-8 c =
-    let s = c .before .before .before .before .before .before .before .before .before .before in
-    sym (part-long (s .args .q .darts + s .args .q .darts) 512 (omega (arith, holds-few (s .args .q) (s .pre))))
-
-best-in-requires : tie.Need-best-in-requires
-best-in-requires c κs =
-    let s = c .before .before .before .before .before .before .before .before .before .before in
-    let arc = part-long (s .args .q .darts + s .args .q .darts) 512 (omega (arith, holds-few (s .args .q) (s .pre))) in
-    let node = part-long (s .args .q .posts + s .args .q .faces) 130 (omega (arith, holds-few (s .args .q) (s .pre))) in
-    (s .pre, record { tails-long = arc; heads-long = arc; lowers-long = arc; uppers-long = arc; costs-long = arc; supplies-long = node; demands-long = node }, arc)
+best-by-requires : tie.Need-best-by-requires
+best-by-requires c κs = (c .before .before .pre, fair-unpriced [])
 
 returns : tie.Need-returns
-returns c = search needs
+returns c = λ p st a. found-best p a (c .before .best-by .result) (c .before .best-by .ensures p st a)
 
 pub best-spec : {M : Type 1} → statement M
 best-spec =
-    tie.close
-    (tie.spec
-    add-arcs
-    add-nodes
-    array-borrow-prefix-tails
-    slice-aggregate-best-in
-    array-borrow-prefix-heads
-    slice-aggregate-best-in-2
-    array-borrow-prefix-lowers
-    slice-aggregate-best-in-3
-    array-borrow-prefix-uppers
-    slice-aggregate-best-in-4
-    array-borrow-prefix-costs
-    slice-aggregate-best-in-5
-    array-borrow-prefix-supplies
-    slice-aggregate-best-in-6
-    array-borrow-prefix-demands
-    slice-aggregate-best-in-7
-    array-borrow-prefix-x
-    slice-aggregate-best-in-8
-    best-in-requires
-    returns)
+    tie.close (tie.spec slice-aggregate-best-by slice-aggregate-best-by-2 best-by-requires returns)

@@ -1,4 +1,4 @@
--- `take_shape`: the units of the darts are the first half, those of the corners the second.
+-- `take_shape`: the units of the darts come first, then two for each corner.
 use mathlib.Core.Path.{sym, subst}
 use mathlib.Core.List.{List}
 use Prim.Native.Nat.{ℕ}
@@ -6,6 +6,7 @@ use denote.Ref.{now}
 use lib.ListN.{getD}
 use Rattle.finite.specs.Tables.{Table}
 use Rattle.finite.proofs.Lent.{rest-lent}
+use Rattle.shapes.specs.Rates.{pairSums}
 use Rattle.shapes.proofs.Halves.{first-long, first-fits, rest-fits}
 use borrow.Author.Needs.{needs}
 use Rattle.shapes.proofs.best.take_shape.Statement.{statement}
@@ -19,22 +20,20 @@ slice-aggregate-bytes-of c =
 bytes-of-requires : tie.Need-bytes-of-requires
 bytes-of-requires c κs = let s = c .before .before in first-fits (s .args .darts) (now (s .args .x)) (s .pre)
 
-mul-bytes-of : tie.Need-mul-bytes-of
-mul-bytes-of c = search needs
+mul-corners-of : tie.Need-mul-corners-of
+mul-corners-of c = search needs
 
-sub-bytes-of : tie.Need-sub-bytes-of
-sub-bytes-of c = search needs
+sub-corners-of : tie.Need-sub-corners-of
+sub-corners-of c = search needs
 
-part-bytes-of-start : tie.Need-part-bytes-of-start
-part-bytes-of-start c = search needs
+part-corners-of-start : tie.Need-part-corners-of-start
+part-corners-of-start c = search needs
 
-part-bytes-of-end : tie.Need-part-bytes-of-end
-part-bytes-of-end c = search needs
+part-corners-of-end : tie.Need-part-corners-of-end
+part-corners-of-end c = search needs
 
-bytes-of-requires-2 : tie.Need-bytes-of-requires-2
-bytes-of-requires-2 c κs =
-    let s = c .before .before .before .before in
-    rest-fits (s .args .darts) (now (s .args .x)) (s .pre)
+corners-of-requires : tie.Need-corners-of-requires
+corners-of-requires c κs = let s = c .before .before .before .before in rest-fits (s .args .darts) (now (s .args .x)) (s .pre)
 
 slice-aggregate-total-bends : tie.Need-slice-aggregate-total-bends
 slice-aggregate-total-bends c =
@@ -47,10 +46,10 @@ total-bends-requires c κs = search needs
 returns : tie.Need-returns
 returns c =
     let s = c .before .before .before .before .before .before .before in
-    let angles = c .before .before .bytes-of2 in
+    let angles = c .before .before .corners-of in
     record {
       rights = c .before .before .before .before .bytes-of .ensures;
-      angles = subst (λ (l : List ℕ). Table 256 (λ i. getD l i 0) (angles .result)) (rest-lent (now (s .args .x)) (s .args .darts)) (angles .ensures);
+      angles = subst (λ (l : List ℕ). Table 256 (λ i. getD (pairSums l) i 0) (angles .result)) (rest-lent (now (s .args .x)) (s .args .darts)) (angles .ensures);
       sum = c .total-bends .ensures;
     }
 
@@ -60,11 +59,11 @@ take-shape-spec =
     (tie.spec
     slice-aggregate-bytes-of
     bytes-of-requires
-    mul-bytes-of
-    sub-bytes-of
-    part-bytes-of-start
-    part-bytes-of-end
-    bytes-of-requires-2
+    mul-corners-of
+    sub-corners-of
+    part-corners-of-start
+    part-corners-of-end
+    corners-of-requires
     slice-aggregate-total-bends
     total-bends-requires
     returns)

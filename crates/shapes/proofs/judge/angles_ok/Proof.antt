@@ -4,7 +4,7 @@ use Prim.Native.Nat.{_-_}
 use lib.ListN.{length, drop}
 use Rattle.embedding.proofs.Fronts.{past}
 use Rattle.shapes.specs.Shapes.{anglesOk}
-use Rattle.shapes.proofs.AnglesFront.{angle-on, angle-low, angle-high}
+use Rattle.shapes.proofs.RangeFront.{range-on, range-low, range-high}
 use native.Mathlib.Omega.{arith}
 use Rattle.shapes.proofs.judge.angles_ok.Statement.{statement}
 use Rattle.shapes.proofs.judge.angles_ok.Tie as tie
@@ -22,13 +22,13 @@ shared-slice-read-if1 : tie.Need-shared-slice-read-if1 Inv-loop μ-loop
 shared-slice-read-if1 c = omega arith
 
 returns : tie.Need-returns Inv-loop μ-loop
-returns c = angle-low (c .before .before .before .before .args .s .now) (c .before .before .before .loop .i) (c .before .before .before .loop .inv) (omega arith) (omega arith)
+returns c = range-low anglesOk 1 4 (λ x xs. refl) (c .before .before .before .before .args .s .now) (c .before .before .before .loop .i) (c .before .before .before .loop .inv) (omega arith) (omega arith)
 
 shared-slice-read-if2 : tie.Need-shared-slice-read-if2 Inv-loop μ-loop
 shared-slice-read-if2 c = omega arith
 
 returns-2 : tie.Need-returns-2 Inv-loop μ-loop
-returns-2 c = angle-high (c .before .before .before .before .before .before .args .s .now) (c .before .before .before .before .before .loop .i) (c .before .before .before .before .before .loop .inv) (omega arith) (omega arith) (omega arith)
+returns-2 c = range-high anglesOk 1 4 (λ x xs. refl) (c .before .before .before .before .before .before .args .s .now) (c .before .before .before .before .before .loop .i) (c .before .before .before .before .before .loop .inv) (omega arith) (omega arith) (omega arith)
 
 add-i : tie.Need-add-i Inv-loop μ-loop
 add-i c = omega arith
@@ -37,7 +37,7 @@ loop-less : tie.Need-loop-less Inv-loop μ-loop
 loop-less c = omega arith
 
 loop-again : tie.Need-loop-again Inv-loop μ-loop
-loop-again c = angle-on (c .before .before .before .before .before .before .args .s .now) (c .before .before .before .before .before .loop .i) (c .before .before .before .before .before .loop .inv) (omega arith) (omega arith) (omega arith)
+loop-again c = range-on anglesOk 1 4 (λ x xs. refl) (c .before .before .before .before .before .before .args .s .now) (c .before .before .before .before .before .loop .i) (c .before .before .before .before .before .loop .inv) (omega arith) (omega arith) (omega arith)
 
 returns-3 : tie.Need-returns-3 Inv-loop μ-loop
 returns-3 c = past anglesOk (c .before .before .args .s .now) (c .before .loop .i) (c .before .loop .inv) (omega arith)

@@ -1,18 +1,18 @@
--- `fill_costs`: the arcs below a have their cost.
+-- `fill_costs`: the arcs below a have theirs.
 use Prim.Native.Nat.{_-_}
 use lib.ListN.{length}
-use Rattle.shapes.specs.Entries.{halfAt}
 use Rattle.shapes.proofs.Filled.{Begun, begun-none, begun-more, begun-done}
+use Rattle.shapes.specs.Entries.{costAt}
 use borrow.Author.Needs.{needs}
 use native.Mathlib.Omega.{arith}
 use Rattle.shapes.proofs.network.fill_costs.Statement.{statement}
 use Rattle.shapes.proofs.network.fill_costs.Tie as tie
 
 abbrev Inv-loop : tie.InvT-loop
-Inv-loop darts costs₀ a₀ costs a = Begun (length costs₀) (halfAt darts 1 0) a costs
+Inv-loop darts prices costs₀ a₀ costs a = Begun (length costs₀) (costAt darts prices) a costs
 
 abbrev μ-loop : tie.MeasureT-loop
-μ-loop darts costs₀ a₀ costs a = length costs₀ - a
+μ-loop darts prices costs₀ a₀ costs a = length costs₀ - a
 
 loop-holds : tie.Need-loop-holds Inv-loop μ-loop
 loop-holds c = begun-none _
@@ -39,7 +39,7 @@ same-length : tie.Need-same-length Inv-loop μ-loop
 same-length c = c .before .loop .inv .size
 
 returns : tie.Need-returns Inv-loop μ-loop
-returns c = begun-done (c .before .loop .inv) (omega arith) (c .before .before .before .pre)
+returns c = begun-done (c .before .loop .inv) (omega arith) (c .before .before .before .before .pre)
 
 pub fill-costs-spec : {M : Type 1} → statement M
 fill-costs-spec =

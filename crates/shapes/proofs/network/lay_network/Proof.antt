@@ -1,9 +1,10 @@
 -- `lay_network`: each list is laid by its own rule, and the seven together are the network.
 use mathlib.Core.Path.{sym}
+use denote.Ref.{now}
 use Rattle.shapes.proofs.Filled.{table-of}
-use Rattle.shapes.proofs.Laid.{holds-few, holds-faced, holds-sized, holds-outer, network-laid}
-use borrow.Author.Needs.{needs}
+use Rattle.shapes.proofs.Laid.{holds-few, holds-faced, holds-jointed, holds-sized, holds-outer, network-laid}
 use native.Mathlib.Omega.{arith}
+use borrow.Author.Needs.{needs}
 use Rattle.shapes.proofs.network.lay_network.Statement.{statement}
 use Rattle.shapes.proofs.network.lay_network.Tie as tie
 
@@ -12,17 +13,17 @@ cast-outer c = search needs
 
 array-read-outer : tie.Need-array-read-outer
 array-read-outer c =
-    let s = c .before .before .before .before .before .before .before .before .before .before .before in
+    let s = c .before .before .before .before .before .before .before .before .before .before .before .before .before .before in
     omega (arith, holds-outer (s .args .q) (s .pre .0), holds-few (s .args .q) (s .pre .0), holds-faced (s .args .q) (s .pre .0) .face-long)
 
 cast-outer-2 : tie.Need-cast-outer-2
 cast-outer-2 c =
-    let s = c .before .before .before .before .before .before .before .before .before .before .before in
+    let s = c .before .before .before .before .before .before .before .before .before .before .before .before .before .before in
     omega (arith, holds-outer (s .args .q) (s .pre .0))
 
 add-outer : tie.Need-add-outer
 add-outer c =
-    let s = c .before .before .before .before .before .before .before .before .before .before .before in
+    let s = c .before .before .before .before .before .before .before .before .before .before .before .before .before .before in
     omega (arith, holds-outer (s .args .q) (s .pre .0), holds-few (s .args .q) (s .pre .0))
 
 slice-aggregate-fill-tails : tie.Need-slice-aggregate-fill-tails
@@ -33,7 +34,7 @@ slice-aggregate-fill-tails-2 c = search needs
 
 fill-tails-requires : tie.Need-fill-tails-requires
 fill-tails-requires c κs =
-    let s = c .before .before .before .before .before .before .before .before .before .before .before .before .before .before in
+    let s = c .before .before .before .before .before .before .before .before .before .before .before .before .before .before .before .before .before in
     (holds-faced (s .args .q) (s .pre .0), s .pre .0 .1 .strip-ends .size, s .pre .1 .tails-long)
 
 slice-aggregate-fill-heads : tie.Need-slice-aggregate-fill-heads
@@ -41,27 +42,35 @@ slice-aggregate-fill-heads c = search needs
 
 fill-heads-requires : tie.Need-fill-heads-requires
 fill-heads-requires c κs =
-    let s = c .before .before .before .before .before .before .before .before .before .before .before .before .before .before .before .before .before .before .before in
+    let s = c .before .before .before .before .before .before .before .before .before .before .before .before .before .before .before .before .before .before .before .before .before .before in
     (holds-faced (s .args .q) (s .pre .0), s .pre .1 .heads-long)
 
-fill-halves-requires : tie.Need-fill-halves-requires
-fill-halves-requires c κs = search needs
+fill-lowers-requires : tie.Need-fill-lowers-requires
+fill-lowers-requires c κs = c .before .before .before .before .before .before .before .before .before .before .before .before .before .before .before .before .before .before .before .before .before .before .before .before .before .before .pre .1 .lowers-long
 
-fill-halves-requires-2 : tie.Need-fill-halves-requires-2
-fill-halves-requires-2 c κs = search needs
+slice-aggregate-fill-uppers : tie.Need-slice-aggregate-fill-uppers
+slice-aggregate-fill-uppers c = sym (c .before .before .before .before .before .before .before .before .before .before .before .before .before .before .before .before .before .before .before .before .before .before .before .before .before .before .before .before .before .before .pre .0 .1 .strip-ends .size)
+
+slice-aggregate-fill-uppers-2 : tie.Need-slice-aggregate-fill-uppers-2
+slice-aggregate-fill-uppers-2 c = sym (c .before .before .before .before .before .before .before .before .before .before .before .before .before .before .before .before .before .before .before .before .before .before .before .before .before .before .before .before .before .before .before .pre .0 .1 .post-degrees .size)
+
+fill-uppers-requires : tie.Need-fill-uppers-requires
+fill-uppers-requires c κs =
+    let s = c .before .before .before .before .before .before .before .before .before .before .before .before .before .before .before .before .before .before .before .before .before .before .before .before .before .before .before .before .before .before .before .before in
+    (holds-jointed (s .args .q) (s .pre .0), s .pre .1 .uppers-long)
 
 fill-costs-requires : tie.Need-fill-costs-requires
-fill-costs-requires c κs = c .before .before .before .before .before .before .before .before .before .before .before .before .before .before .before .before .before .before .before .before .before .before .before .before .before .before .before .before .before .before .before .pre .1 .costs-long
+fill-costs-requires c κs = c .before .before .before .before .before .before .before .before .before .before .before .before .before .before .before .before .before .before .before .before .before .before .before .before .before .before .before .before .before .before .before .before .before .before .before .before .pre .1 .costs-long
 
 fill-supplies-requires : tie.Need-fill-supplies-requires
 fill-supplies-requires c κs = search needs
 
 slice-aggregate-fill-demands : tie.Need-slice-aggregate-fill-demands
-slice-aggregate-fill-demands c = sym (c .before .before .before .before .before .before .before .before .before .before .before .before .before .before .before .before .before .before .before .before .before .before .before .before .before .before .before .before .before .before .before .before .before .before .before .before .before .before .before .pre .0 .1 .face-sizes .size)
+slice-aggregate-fill-demands c = sym (c .before .before .before .before .before .before .before .before .before .before .before .before .before .before .before .before .before .before .before .before .before .before .before .before .before .before .before .before .before .before .before .before .before .before .before .before .before .before .before .before .before .before .before .before .pre .0 .1 .face-sizes .size)
 
 fill-demands-requires : tie.Need-fill-demands-requires
 fill-demands-requires c κs =
-    let s = c .before .before .before .before .before .before .before .before .before .before .before .before .before .before .before .before .before .before .before .before .before .before .before .before .before .before .before .before .before .before .before .before .before .before .before .before .before .before .before .before in
+    let s = c .before .before .before .before .before .before .before .before .before .before .before .before .before .before .before .before .before .before .before .before .before .before .before .before .before .before .before .before .before .before .before .before .before .before .before .before .before .before .before .before .before .before .before .before .before in
     (omega (arith, s .pre .1 .demands-long, holds-few (s .args .q) (s .pre .0)), holds-sized (s .args .q) (s .pre .0))
 
 same-length : tie.Need-same-length
@@ -88,15 +97,15 @@ same-length-7 c = search needs
 returns : tie.Need-returns
 returns c =
     let demands = c .before .before in
-    let supplies = demands .before .before .before .before .before in
-    let costs = supplies .before .before .before .before in
-    let uppers = costs .before .before .before .before in
-    let lowers = uppers .before .before .before .before in
-    let heads = lowers .before .before .before .before in
-    let tails = heads .before .before .before .before .before in
-    let s = tails .before .before .before .before .before .before .before .before .before .before .before .before .before .before .before in
+    let supplies = c .before .before .before .before .before .before .before in
+    let costs = c .before .before .before .before .before .before .before .before .before .before .before in
+    let uppers = c .before .before .before .before .before .before .before .before .before .before .before .before .before .before .before in
+    let lowers = c .before .before .before .before .before .before .before .before .before .before .before .before .before .before .before .before .before .before .before .before .before in
+    let heads = c .before .before .before .before .before .before .before .before .before .before .before .before .before .before .before .before .before .before .before .before .before .before .before .before .before in
+    let tails = c .before .before .before .before .before .before .before .before .before .before .before .before .before .before .before .before .before .before .before .before .before .before .before .before .before .before .before .before .before .before in
+    let s = c .before .before .before .before .before .before .before .before .before .before .before .before .before .before .before .before .before .before .before .before .before .before .before .before .before .before .before .before .before .before .before .before .before .before .before .before .before .before .before .before .before .before .before .before .before .before .before .before in
     λ p st a.
-    network-laid p (s .args .q) st a _ _ _ _ _ _ _ (tails .fill-tails .ensures) (heads .fill-heads .ensures) (lowers .fill-halves .ensures) (uppers .fill-halves2 .ensures)
+    network-laid p (s .args .q) st a (now (s .args .limits)) (now (s .args .prices)) _ _ _ _ _ _ _ (tails .fill-tails .ensures) (heads .fill-heads .ensures) (lowers .fill-lowers .ensures) (uppers .fill-uppers .ensures)
     (costs .fill-costs .ensures) (table-of (s .pre .1 .supplies-long) (supplies .fill-supplies .ensures)) (table-of (s .pre .1 .demands-long) (demands .fill-demands .ensures))
 
 pub lay-network-spec : {M : Type 1} → statement M
@@ -112,8 +121,10 @@ lay-network-spec =
     fill-tails-requires
     slice-aggregate-fill-heads
     fill-heads-requires
-    fill-halves-requires
-    fill-halves-requires-2
+    fill-lowers-requires
+    slice-aggregate-fill-uppers
+    slice-aggregate-fill-uppers-2
+    fill-uppers-requires
     fill-costs-requires
     fill-supplies-requires
     slice-aggregate-fill-demands
