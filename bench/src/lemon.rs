@@ -79,8 +79,8 @@ fn first_flow(network: &Network, skip: bool) -> Vec<i32> {
 }
 
 /// Holds LEMON's least cost and first flow against those of the library.
-pub fn compare(network: &Network, bends: u32, flow: &[i32]) {
-    assert_eq!(Graph::new(network).least_cost(), bends as i32, "least cost");
+pub fn compare(network: &Network, cost: i32, flow: &[i32]) {
+    assert_eq!(Graph::new(network).least_cost(), cost, "least cost");
     assert_eq!(first_flow(network, false), flow, "a solve for each arc");
     assert_eq!(first_flow(network, true), flow, "a solve for each open arc");
 }

@@ -7,7 +7,7 @@ use crate::network::Network;
 pub const PRESENT: bool = false;
 
 /// Nothing to compare with.
-pub fn compare(_network: &Network, _bends: u32, _flow: &[i32]) {}
+pub fn compare(_network: &Network, _cost: i32, _flow: &[i32]) {}
 
 /// Nothing to measure.
 pub fn calls(_network: &Network) -> Vec<Call<'_>> {

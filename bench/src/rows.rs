@@ -53,8 +53,8 @@ fn compare(named: &Named, file: &[u8], bends: u32) {
     let verdict = plates::check_shape(&named.list, file).expect("the shape is sound");
     let totals = (verdict.total, verdict.fewest, verdict.ours);
     assert_eq!(totals, (bends, bends, true), "{}", named.name);
-    let flow = flow_of(&shape_in(file, named.plate.darts()));
-    lemon::compare(&network(&named.plate), bends, &flow);
+    let (flow, cost) = flow_of(&named.plate, &shape_in(file, named.plate.darts()));
+    lemon::compare(&network(&named.plate), cost, &flow);
 }
 
 /// Shaping, checking and the independent implementation, all from the bytes.

@@ -1,10 +1,12 @@
 //! The best shape of any plate by cycle cancelling on the flow network of
 //! document 01.
 //!
-//! The cost of a flow is the vector (bends, right bends of darts 0, 1, 2 and
-//! so on, angles of darts 0, 1, 2 and so on), compared lexicographically.
-//! Negative cycles are cancelled for its first component, then, among the
-//! flows that are least so far, for one component after another.
+//! The cost of a flow is the vector (bends, cornered posts, right bends of
+//! darts 0, 1, 2 and so on, angles of darts 0, 1, 2 and so on), compared
+//! lexicographically. Negative cycles are cancelled for its first two
+//! components, then, among the flows that are least so far, for one component
+//! after another. The angle of a dart is on two arcs, the second for what is
+//! over 2 where that leaves a post cornered.
 
 use crate::plate::{twin, Plate, Shape};
 use std::collections::VecDeque;
@@ -25,8 +27,8 @@ struct Step {
     more: bool,
 }
 
-/// Nodes are the posts, then the faces. Arc d carries the right bends of dart
-/// d, arc 2m + d the angle at the end of dart d.
+/// Nodes are the posts, then the faces. Of n darts, arc d carries the right
+/// bends of dart d, and arcs n + 2d and n + 2d + 1 the angle at its end.
 struct Network {
     nodes: usize,
     arcs: Vec<Arc>,
@@ -34,6 +36,9 @@ struct Network {
 
 /// More than any flow that can be needed.
 const UNLIMITED: i64 = 1 << 40;
+
+/// A bend outweighs any cornered posts.
+const BEND: i64 = 1 << 20;
 
 /// The best shape of an accepted plate.
 pub fn best(plate: &Plate) -> Shape {
@@ -67,20 +72,28 @@ fn network(plate: &Plate, faces: &[Vec<usize>]) -> Network {
         low: 0,
         high: UNLIMITED,
         flow: 0,
-        cost: 1,
+        cost: BEND,
     };
     let corner = |d| Arc {
         tail: plate.head(d),
         head: face_of[d],
         low: 1,
-        high: 4,
+        high: if plate.at_joint(d) { 2 } else { 4 },
         flow: 1,
         cost: 0,
     };
+    let over_two = |d| Arc {
+        low: 0,
+        high: if plate.at_joint(d) { 2 } else { 0 },
+        flow: 0,
+        cost: 1,
+        ..corner(d)
+    };
     let bends = (0..plate.darts()).map(bend);
+    let corners = (0..plate.darts()).flat_map(|d| [corner(d), over_two(d)]);
     Network {
         nodes: plate.posts + faces.len(),
-        arcs: bends.chain((0..plate.darts()).map(corner)).collect(),
+        arcs: bends.chain(corners).collect(),
     }
 }
 
@@ -89,8 +102,26 @@ fn spread_angles(plate: &Plate, network: &mut Network) {
     for post in 0..plate.posts {
         let dart = (0..plate.darts()).find(|&d| plate.head(d) == post);
         let dart = dart.expect("an accepted plate has a strip at each post");
-        network.arcs[plate.darts() + dart].flow += 4 - plate.degree(post) as i64;
+        let [low, high] = corner_arcs(plate, dart);
+        let rest = 4 - plate.degree(post) as i64;
+        let more = rest.min(network.room(Step {
+            arc: low,
+            more: true,
+        }));
+        network.arcs[low].flow += more;
+        network.arcs[high].flow += rest - more;
     }
+}
+
+/// The two arcs of a dart's angle.
+fn corner_arcs(plate: &Plate, dart: usize) -> [usize; 2] {
+    [0, 1].map(|i| plate.darts() + 2 * dart + i)
+}
+
+/// What they carry together.
+fn angle(plate: &Plate, network: &Network, dart: usize) -> i64 {
+    let flows = corner_arcs(plate, dart).map(|arc| network.arcs[arc].flow);
+    flows.iter().sum()
 }
 
 /// Sends what each face has too much of, or lacks, over a tree of the dual
@@ -98,7 +129,7 @@ fn spread_angles(plate: &Plate, network: &mut Network) {
 fn balance_faces(plate: &Plate, faces: &[Vec<usize>], network: &mut Network) {
     let mut excess = vec![0; network.nodes];
     for (face, darts) in faces.iter().enumerate() {
-        let corners = darts.iter().map(|&d| network.arcs[plate.darts() + d].flow);
+        let corners = darts.iter().map(|&d| angle(plate, network, d));
         let due = 2 * darts.len() as i64 - plate.turns_due(darts);
         excess[plate.posts + face] = corners.sum::<i64>() - due;
     }
@@ -301,9 +332,10 @@ impl Network {
 
     fn shape(&self, darts: usize) -> Shape {
         let flow = |arc: &Arc| arc.flow as u32;
+        let both = |arcs: &[Arc]| arcs.iter().map(flow).sum();
         Shape {
             rights: self.arcs[..darts].iter().map(flow).collect(),
-            angles: self.arcs[darts..].iter().map(flow).collect(),
+            angles: self.arcs[darts..].chunks(2).map(both).collect(),
         }
     }
 }

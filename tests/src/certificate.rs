@@ -1,13 +1,15 @@
 //! Whether a given shape is the best one, by the cost vectors of document 01.
 //!
-//! The cost of a flow is the vector (bends, right bends of darts 0, 1, 2 and
-//! so on, angles of darts 0, 1, 2 and so on), compared lexicographically. A
-//! shape is the best one when no cycle of the residual network costs less
-//! than the zero vector. Bellman and Ford's method decides it.
+//! The cost of a flow is the vector (bends, cornered posts, right bends of
+//! darts 0, 1, 2 and so on, angles of darts 0, 1, 2 and so on), compared
+//! lexicographically. At a post with two strip ends one more on an angle of 2
+//! or 3 makes a cornered post more. A shape is the best one when no cycle of
+//! the residual network costs less than the zero vector. Bellman and Ford's
+//! method decides it.
 
 use crate::plate::{twin, Plate, Shape};
 
-/// Bends first, then one component for each arc.
+/// Bends, cornered posts, then one component for each arc.
 type Cost = Vec<i32>;
 
 /// One unit more or less on an arc, as an arc of the residual network.
@@ -17,6 +19,7 @@ struct Step {
     /// Right bends of dart d have number d, its angle has number 2m + d.
     arc: usize,
     bends: i32,
+    cornered: i32,
     sign: i32,
 }
 
@@ -36,22 +39,30 @@ fn residual(plate: &Plate, faces: &[Vec<usize>], shape: &Shape) -> Vec<Step> {
     let mut steps = Vec::new();
     for d in 0..plate.darts() {
         let bend = (face_of(d), face_of(twin(d)));
-        steps.push(step(bend, d, 1, true));
+        steps.push(step(bend, d, (1, 0), true));
         if shape.rights[d] > 0 {
-            steps.push(step(bend, d, 1, false));
+            steps.push(step(bend, d, (1, 0), false));
         }
         let corner = (plate.head(d), face_of(d));
+        let over = |angle| i32::from(plate.at_joint(d) && angle > 2);
         if shape.angles[d] < 4 {
-            steps.push(step(corner, plate.darts() + d, 0, true));
+            let cost = (0, over(shape.angles[d] + 1));
+            steps.push(step(corner, plate.darts() + d, cost, true));
         }
         if shape.angles[d] > 1 {
-            steps.push(step(corner, plate.darts() + d, 0, false));
+            let cost = (0, over(shape.angles[d]));
+            steps.push(step(corner, plate.darts() + d, cost, false));
         }
     }
     steps
 }
 
-fn step((tail, head): (usize, usize), arc: usize, bends: i32, more: bool) -> Step {
+fn step(
+    (tail, head): (usize, usize),
+    arc: usize,
+    (bends, cornered): (i32, i32),
+    more: bool,
+) -> Step {
     let (from, to, sign) = if more {
         (tail, head, 1)
     } else {
@@ -62,13 +73,14 @@ fn step((tail, head): (usize, usize), arc: usize, bends: i32, more: bool) -> Ste
         to,
         arc,
         bends: bends * sign,
+        cornered: cornered * sign,
         sign,
     }
 }
 
 fn has_negative_cycle(plate: &Plate, faces: &[Vec<usize>], steps: &[Step]) -> bool {
     let nodes = plate.posts + faces.len();
-    let mut distance: Vec<Cost> = vec![vec![0; 1 + 2 * plate.darts()]; nodes];
+    let mut distance: Vec<Cost> = vec![vec![0; 2 + 2 * plate.darts()]; nodes];
     (0..=nodes).all(|_| relax(&mut distance, steps))
 }
 
@@ -78,7 +90,8 @@ fn relax(distance: &mut [Cost], steps: &[Step]) -> bool {
     for step in steps {
         let mut cost = distance[step.from].clone();
         cost[0] += step.bends;
-        cost[1 + step.arc] += step.sign;
+        cost[1] += step.cornered;
+        cost[2 + step.arc] += step.sign;
         if cost < distance[step.to] {
             distance[step.to] = cost;
             changed = true;

@@ -129,6 +129,18 @@ impl Plate {
         })
     }
 
+    /// Whether a dart ends at a post with exactly two strip ends.
+    pub fn at_joint(&self, dart: usize) -> bool {
+        self.degree(self.head(dart)) == 2
+    }
+
+    /// Posts with exactly two strip ends and no angle of 2.
+    pub fn cornered(&self, angles: &[u32]) -> usize {
+        let straight = |post| (0..self.darts()).any(|d| self.head(d) == post && angles[d] == 2);
+        let cornered = |&post: &usize| self.degree(post) == 2 && !straight(post);
+        (0..self.posts).filter(cornered).count()
+    }
+
     /// H3 for the given faces of this plate.
     pub fn turns_close(&self, faces: &[Vec<usize>], shape: &Shape) -> bool {
         faces.iter().all(|face| {

@@ -2,10 +2,12 @@
 
 use crate::plate::{twin, Plate, Shape};
 
-/// Angles that meet H4, with their sum on each face.
+/// Angles that meet H4, with their sum on each face and how many posts they
+/// leave cornered.
 struct Angles {
     angles: Vec<u32>,
     sums: Vec<i64>,
+    cornered: usize,
 }
 
 /// What the search needs of a plate.
@@ -16,8 +18,9 @@ struct Search<'a> {
     choices: Vec<Angles>,
 }
 
-/// The best shape: candidates are tried in the order of document 01, and the
-/// first that meets the conditions is taken.
+/// The best shape: totals are tried from 0 on, and of the shapes with the
+/// first total that some shape has, the one with fewest cornered posts, then
+/// the first in the order of document 01, is taken.
 pub fn best(plate: &Plate) -> Shape {
     let search = Search::new(plate);
     (0..)
@@ -31,7 +34,12 @@ impl Search<'_> {
         let choices = all_angles(plate).into_iter().map(|angles| {
             let sum = |face: &Vec<usize>| face.iter().map(|&d| i64::from(angles[d])).sum();
             let sums = faces.iter().map(sum).collect();
-            Angles { angles, sums }
+            let cornered = plate.cornered(&angles);
+            Angles {
+                angles,
+                sums,
+                cornered,
+            }
         });
         Search {
             plate,
@@ -40,27 +48,34 @@ impl Search<'_> {
         }
     }
 
-    /// The first shape with this total, if there is one.
+    /// The best shape with this total, if there is one. Right bends are tried
+    /// in order, so of shapes with as many cornered posts the first stays.
     fn first_with(&self, total: u32) -> Option<Shape> {
-        let mut found = None;
+        let mut best: Option<(usize, Shape)> = None;
         each_sequence(self.plate.darts(), total, &mut Vec::new(), &mut |rights| {
-            found = self.first_angles(rights);
-            found.is_some()
+            if let Some(found) = self.first_angles(rights) {
+                if best.as_ref().is_none_or(|(fewest, _)| found.0 < *fewest) {
+                    best = Some(found);
+                }
+            }
+            best.as_ref().is_some_and(|(fewest, _)| *fewest == 0)
         });
-        found
+        best.map(|(_, shape)| shape)
     }
 
-    /// The first shape with these right bends that meets H3, if there is one.
-    fn first_angles(&self, rights: &[u32]) -> Option<Shape> {
+    /// The best shape with these right bends that meets H3, if there is one,
+    /// and its cornered posts.
+    fn first_angles(&self, rights: &[u32]) -> Option<(usize, Shape)> {
         let due = |face: &Vec<usize>| self.angles_due(face, rights);
         let due: Vec<i64> = self.faces.iter().map(due).collect();
-        let choice = self.choices.iter().find(|choice| choice.sums == due)?;
+        let meeting = self.choices.iter().filter(|choice| choice.sums == due);
+        let choice = meeting.min_by_key(|choice| choice.cornered)?;
         let shape = Shape {
             rights: rights.to_vec(),
             angles: choice.angles.clone(),
         };
         assert!(self.plate.turns_close(&self.faces, &shape), "H3");
-        Some(shape)
+        Some((choice.cornered, shape))
     }
 
     /// The sum of a face's angles that gives it the turns that it must have.
@@ -131,15 +146,15 @@ pub fn best_with_words(plate: &Plate) -> Shape {
                 let found = search.first_angles(&rights_of(words));
                 best = earlier(best.take(), found);
             });
-            best
+            best.map(|(_, shape)| shape)
         })
         .expect("every plate has a shape")
 }
 
 /// The one of two shapes with the same total that comes first.
-fn earlier(a: Option<Shape>, b: Option<Shape>) -> Option<Shape> {
+fn earlier(a: Option<(usize, Shape)>, b: Option<(usize, Shape)>) -> Option<(usize, Shape)> {
     let shapes = a.into_iter().chain(b);
-    shapes.min_by(|a, b| (&a.rights, &a.angles).cmp(&(&b.rights, &b.angles)))
+    shapes.min_by(|(c, a), (d, b)| (c, &a.rights, &a.angles).cmp(&(d, &b.rights, &b.angles)))
 }
 
 /// Right bends of every dart; the twin's word is reversed and exchanged (H2).

@@ -98,7 +98,7 @@ fn p5_star() {
 
 #[test]
 fn p6_path() {
-    try_plate(&by_number(3, &[[0, 1], [1, 2]], 1), &[0; 4], &[1, 4, 4, 3]);
+    try_plate(&by_number(3, &[[0, 1], [1, 2]], 1), &[0; 4], &[2, 4, 4, 2]);
 }
 
 #[test]
