@@ -6,9 +6,11 @@ use mathlib.Core.List.{List}
 use Prim.Native.Nat.{ℕ, _+_, _*_, _≤_, _<_, min}
 use native.Mathlib.Nat.{mul-le-mul-left, le-refl}
 use native.Mathlib.Omega.{arith}
-use lib.ListN.{length, getD}
+use native.Mathlib.Decide.{decLt}
+use lib.ListN.{length, getD, List·getD-eq-default}
 use Rattle.finite.proofs.Sums.{sumBelow, sum-cong, sum-le, total-sum}
 use Rattle.residual.specs.Residual.{Shaped}
+use Rattle.residual.specs.Chains.{Movable}
 use Rattle.flow.specs.Network.{Network, Flow, Sound, Least, total, costOf, smaller, unbounded, excess, excessAt, network, Either, Best, NoFlow}
 use Rattle.flow.specs.Solver.{residualOf, State, Carried, Caps, Spread, Zeros, Ready, Stalled, Capped, First, Settled, Finished, Blocked, phaseMost}
 use Rattle.flow.proofs.Names.{arcs, nodes, tail, head, lower, upper, GoesOut, GoesIn, Full, AtLower}
@@ -21,6 +23,13 @@ use Rattle.flow.proofs.Duality.{capped-spare}
 use Rattle.flow.proofs.Lexicographic.{upto-none, priced-least}
 use Rattle.flow.proofs.Trims.{excess-sum, trim}
 use Rattle.flow.proofs.Uniques.{smaller-trans, below-smaller}
+
+-- what can move below its cap can move
+pub capped-moves : {lowers uppers : List ℕ} {e : ℕ} {caps : List ℕ} → Caps lowers uppers e caps → (a : ℕ) → Movable lowers caps a → Movable lowers uppers a
+capped-moves {uppers = uppers} {caps = caps} c a m = elim (decLt a (length uppers)) [
+  | yes l ↦ omega (arith, c .at a l)
+  | no n ↦ absurd (omega (arith, List·getD-eq-default caps 0 {n = a} (omega (arith, n, c .long))))
+]
 
 abbrev pub capped : Network → List ℕ → Network
 capped n caps = network (n .tails) (n .heads) (n .lowers) caps (n .costs) (n .supplies) (n .demands)
@@ -128,15 +137,13 @@ module _ (n : Network) (sound : Sound n) (e : ℕ) (is-excess : e ≡ excess n) 
 
     pub ready-first : (pot : List ℕ) → Zeros (nodes n) pot → total left₀ ≡ e → Ready (residualOf m (n .lowers) pot) (phaseMost * total left₀) left₀ lack₀
     ready-first pot z all = record {
-      shaped = subst (Shaped (residualOf m (n .lowers) pot)) (sym (s .left-long)) (shaped m (n .lowers) pot sound-capped (sound .lowers-long) (z .long));
+      shaped = subst (Shaped (residualOf m (n .lowers) pot)) (sym (s .left-long)) (shaped m (n .lowers) pot sound-capped (sound .lowers-long) (z .long) (record { above = λ a l. le-refl (lower n a); below = λ a l. omega (arith, cap-at a l, sound .ordered a l) }));
       lack-long = s .lack-long ∙ sym (s .left-long);
       priced = record {
         up = λ a l room. omega (arith, z .zero-at (head n a));
         down = λ a l room. absurd (omega arith);
       };
       cheap = sound .cheap;
-      above = λ a l. le-refl (lower n a);
-      below = λ a l. omega (arith, cap-at a l, sound .ordered a l);
       sources = λ v h. z .zero-at v;
       budget = λ v. omega (arith, z .zero-at v, e-few);
     }
@@ -144,7 +151,7 @@ module _ (n : Network) (sound : Sound n) (e : ℕ) (is-excess : e ≡ excess n) 
     module _ (x left lack : List ℕ) (kept : Carried (n .tails) (n .heads) (n .lowers) left₀ lack₀ x left lack) (pot : List ℕ) (rest : ℕ) (k : Ready (residualOf m x pot) rest left lack) where
       state-of : (us : List ℕ) → ((a : ℕ) → a < arcs n → getD caps a 0 ≤ getD us a 0) → State (capped n us) x left lack
       state-of us h = record {
-        bounds = record { long = k .shaped .x-long; above = k .above; below = λ a l. inr (omega (arith, k .below a l, h a l)) };
+        bounds = record { long = k .shaped .x-long; above = k .shaped .within .above; below = λ a l. inr (omega (arith, k .shaped .within .below a l, h a l)) };
         kept = λ v l. omega (arith, started .kept v l, kept .balance v);
       }
 

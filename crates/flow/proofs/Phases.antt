@@ -8,7 +8,7 @@ use native.Mathlib.Decide.{decLt}
 use native.Mathlib.Omega.{arith}
 use lib.ListN.{length, getD, set, length-set, List·getD-eq-default}
 use Rattle.finite.proofs.Sums.{total-set}
-use Rattle.residual.specs.Residual.{Residual, Shaped, Rooted, Searched, Pushed, reflowed, repriced, tailOf, headOf, reached, unreached}
+use Rattle.residual.specs.Residual.{Residual, Within, Shaped, Rooted, Searched, Pushed, reflowed, repriced, tailOf, headOf, reached, unreached}
 use Rattle.residual.specs.Chains.{Chains, Workspace}
 use Rattle.residual.specs.Searches.{Lacks, Sought}
 use Rattle.residual.specs.Prices.{Gap, Raised, Sums}
@@ -21,8 +21,8 @@ use Rattle.flow.specs.Solver.{Carried, Ready, Stalled, Explored, Sent, m
 use Rattle.flow.proofs.Starts.{taken}
 
 -- the same arcs with another flow and other potentials of the same lengths
-pub reshaped : (r : Residual) (nodes : ℕ) (x pot : List ℕ) → length x ≡ length (r .x) → length pot ≡ length (r .pot) → Shaped r nodes → Shaped (reflowed (repriced r pot) x) nodes
-reshaped r nodes x pot lx lp s = record {
+pub reshaped : (r : Residual) (nodes : ℕ) (x pot : List ℕ) → length x ≡ length (r .x) → length pot ≡ length (r .pot) → Within (reflowed r x) → Shaped r nodes → Shaped (reflowed (repriced r pot) x) nodes
+reshaped r nodes x pot lx lp w s = record {
   heads-long = s .heads-long;
   lowers-long = s .lowers-long;
   uppers-long = s .uppers-long;
@@ -33,6 +33,14 @@ reshaped r nodes x pot lx lp s = record {
   nodes-few = s .nodes-few;
   tails-in = s .tails-in;
   heads-in = s .heads-in;
+  within = record { above = w .above; below = w .below };
+}
+
+-- a push keeps the bounds
+pub within-pushed : {r : Residual} {from : ℕ} {dist : List ℕ} {target : ℕ} {x′ : List ℕ} {source : ℕ} → Pushed r from dist target x′ source → Within r → Within (reflowed r x′)
+within-pushed p w = record {
+  above = λ a l. ⊎-elim (λ h. omega (arith, h, w .above a l)) (λ h. h .above (w .above a l)) (p .arcs a);
+  below = λ a l. ⊎-elim (λ h. omega (arith, h, w .below a l)) (λ h. h .below (w .below a l)) (p .arcs a);
 }
 
 -- what may still be spent may also be saved
@@ -42,8 +50,6 @@ ready-rest r rest less left lack h k = record {
   lack-long = k .lack-long;
   priced = k .priced;
   cheap = k .cheap;
-  above = k .above;
-  below = k .below;
   sources = k .sources;
   budget = λ v. omega (arith, k .budget v);
 }
@@ -107,13 +113,13 @@ module _ (r : Residual) (rest : ℕ) (left lack dist via : List ℕ) (k : Ready 
 -- ---- the space to search in
 
 -- it is kept as long as its lists keep their lengths
-pub workspace-kept : {tails heads : List ℕ} {nodes nodes′ : ℕ} {dist via queue outs outlinks ins inlinks dist′ via′ queue′ : List ℕ} → nodes′ ≡ nodes → length dist′ ≡ length dist → length via′ ≡ length via → length queue′ ≡ length queue
-    → Workspace tails heads nodes dist via queue outs outlinks ins inlinks → Workspace tails heads nodes′ dist′ via′ queue′ outs outlinks ins inlinks
-workspace-kept {tails = tails} {heads = heads} {outs = outs} {outlinks = outlinks} {ins = ins} {inlinks = inlinks} e d v q w = record {
+pub workspace-kept : {tails heads lowers uppers : List ℕ} {nodes nodes′ : ℕ} {dist via queue outs outlinks ins inlinks dist′ via′ queue′ : List ℕ} → nodes′ ≡ nodes → length dist′ ≡ length dist → length via′ ≡ length via → length queue′ ≡ length queue
+    → Workspace tails heads lowers uppers nodes dist via queue outs outlinks ins inlinks → Workspace tails heads lowers uppers nodes′ dist′ via′ queue′ outs outlinks ins inlinks
+workspace-kept {tails = tails} {heads = heads} {lowers = lowers} {uppers = uppers} {outs = outs} {outlinks = outlinks} {ins = ins} {inlinks = inlinks} e d v q w = record {
   dist-long = d ∙ w .dist-long ∙ sym e;
   via-long = v ∙ w .via-long ∙ sym e;
   queue-long = q ∙ w .queue-long ∙ sym e;
-  chains = subst (λ (n : ℕ). Chains tails heads n outs outlinks ins inlinks) (sym e) (w .chains);
+  chains = subst (λ (n : ℕ). Chains tails heads lowers uppers n outs outlinks ins inlinks) (sym e) (w .chains);
 }
 
 -- ---- the first search of a phase
@@ -161,7 +167,7 @@ module _ (r : Residual) (left lack dist via : List ℕ) (v : ℕ) (x : Explored 
 
   module _ (g : ℕ) (m : Gap r dist (length (r .tails)) g) (pos : 0 < g) (pot′ : List ℕ) (q : Raised dist g (r .pot) pot′) where
     pub shaped-raised : Shaped (repriced r pot′) (length left)
-    shaped-raised = reshaped r (length left) (r .x) pot′ refl (q .long) (k .shaped)
+    shaped-raised = reshaped r (length left) (r .x) pot′ refl (q .long) (k .shaped .within) (k .shaped)
 
     -- an arc leaves the reached nodes, so one node at least is not reached
     some-unreached : 0 < unreached dist
@@ -178,8 +184,6 @@ module _ (r : Residual) (left lack dist via : List ℕ) (v : ℕ) (x : Explored 
       lack-long = k .lack-long;
       priced = priced-raised r dist g pot′ q (k .priced) (λ a l. s .closed a (omega arith) l) m;
       cheap = k .cheap;
-      above = k .above;
-      below = k .below;
       sources = λ u h.
           same-price r dist g pot′ q u (omega (arith, source-reached r rest left lack dist via k (s .rooted) u h)) ∙ k .sources u h;
       budget = λ u.
@@ -263,12 +267,10 @@ module _ (r : Residual) (left lack dist via : List ℕ) (target : ℕ) (x : Expl
     pub sent : Sent (reflowed r x′) left′ lack′ left
     sent = record {
       ready = record {
-        shaped = subst (Shaped (reflowed r x′)) (sym (length-set left source _)) (reshaped r (length left) x′ (r .pot) (p .long) refl (x .ready .shaped));
+        shaped = subst (Shaped (reflowed r x′)) (sym (length-set left source _)) (reshaped r (length left) x′ (r .pot) (p .long) refl (within-pushed p (x .ready .shaped .within)) (x .ready .shaped));
         lack-long = length-set lack target _ ∙ x .ready .lack-long ∙ sym (length-set left source _);
         priced = priced-pushed r 0 dist target x′ source p (x .ready .priced);
         cheap = x .ready .cheap;
-        above = λ a l. ⊎-elim (λ h. omega (arith, h, x .ready .above a l)) (λ h. h .above (x .ready .above a l)) (p .arcs a);
-        below = λ a l. ⊎-elim (λ h. omega (arith, h, x .ready .below a l)) (λ h. h .below (x .ready .below a l)) (p .arcs a);
         sources = λ v h. x .ready .sources v (omega (arith, taken left source 1 v source-in source-some));
         budget = λ v. omega (arith, x .ready .budget v, one-fewer);
       };

@@ -6,7 +6,7 @@ use native.Mathlib.Nat.{le-refl}
 use native.Mathlib.Omega.{arith}
 use lib.ListN.{length, getD, set, length-set}
 use Rattle.finite.proofs.Sums.{total-set}
-use Rattle.residual.specs.Residual.{Residual, Shaped, reflowed, tailOf, headOf, tight}
+use Rattle.residual.specs.Residual.{Residual, Within, Shaped, reflowed, tailOf, headOf, tight}
 use Rattle.residual.proofs.Units.{unitsAt-more}
 use Rattle.flow.specs.Network.{total}
 use Rattle.flow.specs.Solver.{Carried, Ready, Sent, Eased, phaseMost}
@@ -78,15 +78,21 @@ module _ (r : Residual) (left lack : List ℕ) (k : Ready r (phaseMost * total l
     slow = λ i. omega (arith, at-set (λ j z. z ≤ getD (r .x) j 0 + u) (r .x) a (getD (r .x) a 0 + u) i x-in (le-refl _) (omega arith), fewer);
   }
 
+  within-over : Within (reflowed r x′)
+  within-over =
+      let w = k .shaped .within in
+      record {
+        above = λ i l. at-set (λ j z. getD (r .lowers) j 0 ≤ z) (r .x) a (getD (r .x) a 0 + u) i x-in (omega (arith, w .above a arc)) (w .above i l);
+        below = λ i l. at-set (λ j z. z ≤ getD (r .uppers) j 0) (r .x) a (getD (r .x) a 0 + u) i x-in room (w .below i l);
+      }
+
   pub eased-over : Eased (reflowed r x′) left′ lack′ left
   eased-over = record {
     ready = record {
-      shaped = subst (Shaped (reflowed r x′)) (sym (length-set left t _)) (reshaped r (length left) x′ (r .pot) (length-set (r .x) a _) refl (k .shaped));
+      shaped = subst (Shaped (reflowed r x′)) (sym (length-set left t _)) (reshaped r (length left) x′ (r .pot) (length-set (r .x) a _) refl within-over (k .shaped));
       lack-long = length-set lack h _ ∙ k .lack-long ∙ sym (length-set left t _);
       priced = priced-set r a (getD (r .x) a 0 + u) even (k .priced);
       cheap = k .cheap;
-      above = λ i l. at-set (λ j z. getD (r .lowers) j 0 ≤ z) (r .x) a (getD (r .x) a 0 + u) i x-in (omega (arith, k .above a arc)) (k .above i l);
-      below = λ i l. at-set (λ j z. z ≤ getD (r .uppers) j 0) (r .x) a (getD (r .x) a 0 + u) i x-in room (k .below i l);
       sources = λ v p. k .sources v (omega (arith, taken left t u v left-in has));
       budget = λ v. omega (arith, k .budget v, fewer);
     };

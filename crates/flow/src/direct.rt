@@ -68,7 +68,7 @@ fn send_from(
     v: usize,
 )
     requires { ⌜ Ready (residual (now tails) (now heads) (now lowers) (now uppers) (now costs) (now x) (now pot)) (phaseMost * total (now left)) (now left) (now lack) ⌝ }
-    requires { ⌜ Chain (now tails) (length (now left)) (now outs) (now outlinks) ⌝ }
+    requires { ⌜ Chain (now tails) (now lowers) (now uppers) (length (now left)) (now outs) (now outlinks) ⌝ }
     requires { ⌜ v < length (now left) ⌝ }
     ensures { λ r. ⌜ Carried (now (tails .entry)) (now (heads .entry)) (now (x .entry)) (now (left .entry)) (now (lack .entry)) (now (x .exit)) (now (left .exit)) (now (lack .exit)) ⌝ }
     ensures { λ r. ⌜ Eased (residual (now (tails .entry)) (now (heads .entry)) (now (lowers .entry)) (now (uppers .entry)) (now (costs .entry)) (now (x .exit)) (now (pot .entry))) (now (left .exit)) (now (lack .exit)) (now (left .entry)) ⌝ }
@@ -99,7 +99,7 @@ pub fn send_direct(
     outlinks: &[u16],
 )
     requires { ⌜ Ready (residual (now tails) (now heads) (now lowers) (now uppers) (now costs) (now x) (now pot)) (phaseMost * total (now left)) (now left) (now lack) ⌝ }
-    requires { ⌜ Chain (now tails) (length (now left)) (now outs) (now outlinks) ⌝ }
+    requires { ⌜ Chain (now tails) (now lowers) (now uppers) (length (now left)) (now outs) (now outlinks) ⌝ }
     ensures { λ r. ⌜ Carried (now (tails .entry)) (now (heads .entry)) (now (x .entry)) (now (left .entry)) (now (lack .entry)) (now (x .exit)) (now (left .exit)) (now (lack .exit)) ⌝ }
     ensures { λ r. ⌜ Eased (residual (now (tails .entry)) (now (heads .entry)) (now (lowers .entry)) (now (uppers .entry)) (now (costs .entry)) (now (x .exit)) (now (pot .entry))) (now (left .exit)) (now (lack .exit)) (now (left .entry)) ⌝ }
 {

@@ -13,7 +13,7 @@ use lib.Seq.{getD-set-same, getD-set-other}
 use Rattle.finite.proofs.Sums.{sumBelow, sum-more}
 use Rattle.finite.specs.Base.{when}
 use Rattle.residual.specs.Residual.{Fresh, reached, unreached}
-use Rattle.residual.specs.Chains.{Last, Chain, Lined}
+use Rattle.residual.specs.Chains.{Movable, Last, Chain, Lined}
 use Rattle.residual.specs.Marks.{Zeros}
 use Rattle.residual.proofs.Passes.{unreached-set}
 
@@ -24,53 +24,53 @@ pub zeros-all : (xs : List ℕ) (n k : ℕ) → length xs ≡ n → length xs �
 zeros-all xs n k l h z = record { long = l; zero-at = λ i. elim (decLt i (length xs)) [ yes g ↦ z i (omega arith) | no d ↦ List·getD-eq-default xs 0 {n = i} (omega (arith, d)) ] }
 
 -- no arc is below 0
-last-none : (ends : List ℕ) (v : ℕ) → Last ends v 0 0
-last-none ends v = record { below = omega arith; here = λ h. absurd (omega arith); later = λ b h e. absurd (omega arith) }
+last-none : (ends lowers uppers : List ℕ) (v : ℕ) → Last ends lowers uppers v 0 0
+last-none ends lowers uppers v = record { below = omega arith; here = λ h. absurd (omega arith); later = λ b h e m. absurd (omega arith) }
 
 -- the next arc is the last one of the node that it has
-last-here : (ends : List ℕ) (v k : ℕ) → getD ends k 0 ≡ v → Last ends v (k + 1) (k + 1)
-last-here ends v k e =
+last-here : (ends lowers uppers : List ℕ) (v k : ℕ) → getD ends k 0 ≡ v → Last ends lowers uppers v (k + 1) (k + 1)
+last-here ends lowers uppers v k e =
     let same : k + 1 - 1 ≡ k = omega arith in
-    record { below = omega arith; here = λ h. ap (λ (b : ℕ). getD ends b 0) same ∙ e; later = λ b h d. h }
+    record { below = omega arith; here = λ h. ap (λ (b : ℕ). getD ends b 0) same ∙ e; later = λ b h d m. h }
 
--- and leaves that of every other node
-last-past : (ends : List ℕ) (v k at : ℕ) → (getD ends k 0 ≡ v → ⊥) → Last ends v k at → Last ends v (k + 1) at
-last-past ends v k at n l = record {
+-- one that does not move, or is at another node, leaves it
+last-past : (ends lowers uppers : List ℕ) (v k at : ℕ) → (getD ends k 0 ≡ v → Movable lowers uppers k → ⊥) → Last ends lowers uppers v k at → Last ends lowers uppers v (k + 1) at
+last-past ends lowers uppers v k at n l = record {
   below = omega (arith, l .below);
   here = l .here;
-  later = λ b h. below-more (λ (b : ℕ). getD ends b 0 ≡ v → b < at) k (l .later) (λ e. absurd (n e)) b h;
+  later = λ b h. below-more (λ (b : ℕ). getD ends b 0 ≡ v → Movable lowers uppers b → b < at) k (l .later) (λ e m. absurd (n e m)) b h;
 }
 
 -- the lists once the arcs below k are linked
-pub record Chaining (ends : List ℕ) (nodes k : ℕ) (last before : List ℕ) : Type 0 where
+pub record Chaining (ends lowers uppers : List ℕ) (nodes k : ℕ) (last before : List ℕ) : Type 0 where
   pub last-long : length last ≡ nodes
   pub before-long : length before ≡ length ends
-  pub last-at : (v : ℕ) → v < nodes → Last ends v k (getD last v 0)
-  pub before-at : (a : ℕ) → a < k → Last ends (getD ends a 0) a (getD before a 0)
+  pub last-at : (v : ℕ) → v < nodes → Last ends lowers uppers v k (getD last v 0)
+  pub before-at : (a : ℕ) → a < k → Last ends lowers uppers (getD ends a 0) a (getD before a 0)
 
-pub chaining-start : (ends last before : List ℕ) (nodes : ℕ) → Zeros nodes last → length before ≡ length ends → Chaining ends (length last) 0 last before
-chaining-start ends last before nodes z l = record {
+pub chaining-start : (ends lowers uppers last before : List ℕ) (nodes : ℕ) → Zeros nodes last → length before ≡ length ends → Chaining ends lowers uppers (length last) 0 last before
+chaining-start ends lowers uppers last before nodes z l = record {
   last-long = refl;
   before-long = l;
-  last-at = λ v h. rw (z .zero-at v) (last-none ends v);
+  last-at = λ v h. rw (z .zero-at v) (last-none ends lowers uppers v);
   before-at = λ a h. absurd (omega arith);
 }
 
-module _ {ends last before : List ℕ} {nodes k : ℕ} (c : Chaining ends nodes k last before) where
+module _ {ends lowers uppers last before : List ℕ} {nodes k : ℕ} (c : Chaining ends lowers uppers nodes k last before) where
   -- what `Last` is at k + 1, for the node v of arc k and for the others
-  last-more : (v : ℕ) → v ≡ getD ends k 0 → v < nodes → (u : ℕ) → u < nodes → Last ends u (k + 1) (getD (set last v (k + 1)) u 0)
+  last-more : (v : ℕ) → v ≡ getD ends k 0 → v < nodes → (u : ℕ) → u < nodes → Last ends lowers uppers u (k + 1) (getD (set last v (k + 1)) u 0)
   last-more v e l u h = elim (ℕ-discrete u v) [
-    | yes q ↦ rw (q, getD-set-same last v (k + 1) 0 (omega (arith, c .last-long))) (last-here ends v k (sym e))
-    | no d ↦ rw (getD-set-other last v u (k + 1) 0 d) (last-past ends u k (getD last u 0) (λ q. d (sym q ∙ sym e)) (c .last-at u h))
+    | yes q ↦ rw (q, getD-set-same last v (k + 1) 0 (omega (arith, c .last-long))) (last-here ends lowers uppers v k (sym e))
+    | no d ↦ rw (getD-set-other last v u (k + 1) 0 d) (last-past ends lowers uppers u k (getD last u 0) (λ q m. d (sym q ∙ sym e)) (c .last-at u h))
   ]
 
-  before-more : (v : ℕ) → v ≡ getD ends k 0 → v < nodes → k < length ends → (a : ℕ) → a < k + 1 → Last ends (getD ends a 0) a (getD (set before k (getD last v 0)) a 0)
+  before-more : (v : ℕ) → v ≡ getD ends k 0 → v < nodes → k < length ends → (a : ℕ) → a < k + 1 → Last ends lowers uppers (getD ends a 0) a (getD (set before k (getD last v 0)) a 0)
   before-more v e l h =
-      below-more (λ (a : ℕ). Last ends (getD ends a 0) a (getD (set before k (getD last v 0)) a 0)) k
+      below-more (λ (a : ℕ). Last ends lowers uppers (getD ends a 0) a (getD (set before k (getD last v 0)) a 0)) k
       (λ a g. rw (getD-set-other before k a (getD last v 0) 0 (λ (q : a ≡ k). absurd (omega arith))) (c .before-at a g))
       (rw (getD-set-same before k (getD last v 0) 0 (omega (arith, c .before-long)), ← e) (c .last-at v l))
 
-  pub chaining-more : (v : ℕ) → v ≡ getD ends k 0 → v < nodes → k < length ends → Chaining ends nodes (k + 1) (set last v (k + 1)) (set before k (getD last v 0))
+  pub chaining-more : (v : ℕ) → v ≡ getD ends k 0 → v < nodes → k < length ends → Chaining ends lowers uppers nodes (k + 1) (set last v (k + 1)) (set before k (getD last v 0))
   chaining-more v e l h = record {
     last-long = length-set last v (k + 1) ∙ c .last-long;
     before-long = length-set before k (getD last v 0) ∙ c .before-long;
@@ -78,13 +78,30 @@ module _ {ends last before : List ℕ} {nodes k : ℕ} (c : Chaining ends nodes 
     before-at = before-more v e l h;
   }
 
-  pub chaining-done : k ≡ length ends → (n : ℕ) → nodes ≡ n → Chain ends n last before
+  -- arc k can not move
+  pub chaining-fixed : (v : ℕ) → v ≡ getD ends k 0 → v < nodes → k < length ends → (Movable lowers uppers k → ⊥) → Chaining ends lowers uppers nodes (k + 1) last (set before k (getD last v 0))
+  chaining-fixed v e l h n = record {
+    last-long = c .last-long;
+    before-long = length-set before k (getD last v 0) ∙ c .before-long;
+    last-at = λ u g. last-past ends lowers uppers u k (getD last u 0) (λ q. n) (c .last-at u g);
+    before-at = before-more v e l h;
+  }
+
+  pub chaining-done : k ≡ length ends → (n : ℕ) → nodes ≡ n → Chain ends lowers uppers n last before
   chaining-done e n same = record {
     last-long = c .last-long ∙ same;
     before-long = c .before-long;
     last-at = λ v h. rw (← e) (c .last-at v (omega (arith, same)));
     before-at = λ a h. c .before-at a (omega (arith, e));
   }
+
+-- lower bounds above let fewer arcs move, and the arcs at each node are still among the linked ones
+module _ {ends lowers uppers caps : List ℕ} (fewer : (a : ℕ) → Movable lowers caps a → Movable lowers uppers a) where
+  last-fewer : {v k at : ℕ} → Last ends lowers uppers v k at → Last ends lowers caps v k at
+  last-fewer l = record { below = l .below; here = l .here; later = λ b h e m. l .later b h e (fewer b m) }
+
+  pub chain-fewer : {nodes : ℕ} {last before : List ℕ} → Chain ends lowers uppers nodes last before → Chain ends lowers caps nodes last before
+  chain-fewer c = record { last-long = c .last-long; before-long = c .before-long; last-at = λ v h. last-fewer (c .last-at v h); before-at = λ a h. last-fewer (c .before-at a h) }
 
 -- ---- the queue
 

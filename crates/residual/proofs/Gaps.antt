@@ -11,7 +11,7 @@ use borrow.Author.Count.{below-more}
 use native.Mathlib.Omega.{arith}
 use lib.ListN.{length, getD, set, length-set, List·getD-eq-default}
 use lib.Seq.{getD-set-same, getD-set-other}
-use Rattle.residual.specs.Residual.{Residual, Tells, UpBy, DownBy, tailOf, headOf}
+use Rattle.residual.specs.Residual.{Residual, Tells, Alike, UpBy, DownBy, tailOf, headOf}
 use Rattle.residual.specs.Prices.{Leaves, short, Slack, Lesser, Gap, RaisedTo, Raised}
 
 -- the tests on arc a, between t and h, tell how short it is
@@ -41,6 +41,16 @@ module _ (r : Residual) (dist : List ℕ) (a : ℕ) where
 
   pub slack : (t h s : ℕ) → t ≡ tailOf r a → h ≡ headOf r a → (up down : Bool) → Tells up (UpBy r dist a t h) → Tells down (DownBy r dist a t h) → s ≡ shortBy up down t h → Slack r dist a s
   slack t h s p q up down u d w = subst (Slack r dist a) (sym w) (subst₂ Told (sym p) (sym q) told up down u d)
+
+  -- both ends are reached, or neither
+  told-alike : Alike (getD dist (tailOf r a) 0) (getD dist (headOf r a) 0) → Slack r dist a 0
+  told-alike k = record {
+    leaves = λ h. absurd (omega arith);
+    only = λ t. ⊎-elim (λ w. absurd (omega (arith, k .on (w .0 .near-in), w .0 .far-out))) (λ w. absurd (omega (arith, k .back (w .0 .near-in), w .0 .far-out)));
+  }
+
+  pub slack-alike : (t h : ℕ) → t ≡ tailOf r a → h ≡ headOf r a → Alike (getD dist t 0) (getD dist h 0) → Slack r dist a 0
+  slack-alike t h p q = subst₂ (λ (t h : ℕ). Alike (getD dist t 0) (getD dist h 0) → Slack r dist a 0) (sym p) (sym q) told-alike
 
 module _ (r : Residual) (dist : List ℕ) where
   pub gap-none : Gap r dist 0 0

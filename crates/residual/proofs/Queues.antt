@@ -10,8 +10,8 @@ use borrow.Author.Count.{below-more}
 use lib.ListN.{length, getD, set, length-set}
 use lib.Seq.{getD-set-same, getD-set-other}
 use Rattle.finite.proofs.Order.{Order, less, same, more, order}
-use Rattle.residual.specs.Residual.{Residual, Shaped, Opens, ShutAt, Fresh, Rooted, Searched, tailOf, headOf, reached}
-use Rattle.residual.specs.Chains.{Chain, Lined}
+use Rattle.residual.specs.Residual.{Residual, Within, Shaped, Opens, ShutAt, Fresh, Rooted, Searched, tailOf, headOf, reached}
+use Rattle.residual.specs.Chains.{Movable, Chain, Lined}
 use Rattle.residual.specs.Searches.{Spent, SpentAt, Done, Standing, Underway, Grown, Further, Sought}
 use Rattle.residual.proofs.Passes.{kept, mark-left, unreached-set, ranked-reach, fresh-ranked}
 use Rattle.residual.proofs.Chaining.{lined-more}
@@ -25,6 +25,13 @@ spent-shut : {r : Residual} {dist : List ℕ} {u a : ℕ} → reached dist u →
 spent-shut {dist = dist} h s = record {
   up = λ e t c. s .up t (subst (reached dist) (sym e) h) c;
   down = λ e t c. s .down t (subst (reached dist) (sym e) h) c;
+}
+
+-- an arc that can not move leads nowhere
+spent-fixed : {r : Residual} {dist : List ℕ} {u a : ℕ} → Within r → a < length (r .tails) → (Movable (r .lowers) (r .uppers) a → ⊥) → Spent r dist u a
+spent-fixed {a = a} w arc n = record {
+  up = λ e t c. absurd (n (omega (arith, w .above a arc)));
+  down = λ e t c. absurd (n (omega (arith, w .below a arc)));
 }
 
 -- ---- more nodes reached
@@ -101,7 +108,7 @@ pub record Fan (r : Residual) (from : ℕ) (ends : List ℕ) (u count₀ : ℕ) 
   pub here : 0 < at → getD ends (at - 1) 0 ≡ u
   pub done : (a : ℕ) → from ≤ a → a < length (r .tails) → at ≤ a → getD ends a 0 ≡ u → Spent r dist u a
 
-module _ {r : Residual} {from : ℕ} {ends : List ℕ} {nodes u : ℕ} {last before : List ℕ} (chain : Chain ends nodes last before) (long : length ends ≡ length (r .tails)) (node : u < nodes) where
+module _ {r : Residual} {from : ℕ} {ends : List ℕ} {nodes u : ℕ} {last before : List ℕ} (chain : Chain ends (r .lowers) (r .uppers) nodes last before) (long : length ends ≡ length (r .tails)) (within : Within r) (node : u < nodes) where
   pub fan-start : {count : ℕ} {dist via queue : List ℕ} → Underway r from count dist via queue → Fan r from ends u count dist queue (getD last u 0) count dist via queue
   fan-start {count = count} {dist = dist} {queue = queue} w =
       let l = chain .last-at u node in
@@ -109,7 +116,7 @@ module _ {r : Residual} {from : ℕ} {ends : List ℕ} {nodes u : ℕ} {last bef
         further = record { underway = w; grown = grown-none count dist queue };
         below = omega (arith, l .below);
         here = l .here;
-        done = λ a h arc g e. absurd (omega (arith, l .later a (omega arith) e));
+        done = λ a h arc g e. spent-fixed within arc (λ m. absurd (omega (arith, l .later a (omega arith) e m)));
       }
 
   module _ {count₀ : ℕ} {dist₀ queue₀ : List ℕ} {at count : ℕ} {dist via queue : List ℕ} (f : Fan r from ends u count₀ dist₀ queue₀ at count dist via queue) (in′ : reached dist₀ u) (some : from < at) where
@@ -130,7 +137,7 @@ module _ {r : Residual} {from : ℕ} {ends : List ℕ} {nodes u : ℕ} {last bef
     next-done dist′ k s b h arc g e = go (order b a)
       where
         go : Order b a → Spent r dist′ u b
-        go (less l) = absurd (omega (arith, chain .before-at a (omega (arith, fan-arc)) .later b l (e ∙ sym (f .here (omega arith)))))
+        go (less l) = spent-fixed within arc (λ m. absurd (omega (arith, chain .before-at a (omega (arith, fan-arc)) .later b l (e ∙ sym (f .here (omega arith))) m)))
         go (same q) = subst (Spent r dist′ u) (sym q) s
         go (more l) = spent-kept k (f .done b h arc (omega arith) e)
 

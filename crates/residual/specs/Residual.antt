@@ -47,7 +47,12 @@ canUp r a = getD (r .x) a 0 < getD (r .uppers) a 0
 abbrev pub canDown : Residual → ℕ → Type 0
 canDown r a = getD (r .lowers) a 0 < getD (r .x) a 0
 
--- every list as long as its arcs or nodes, and every end a node
+-- units within the arcs' bounds
+pub record Within (r : Residual) : Type 0 where
+  pub above : (a : ℕ) → a < length (r .tails) → getD (r .lowers) a 0 ≤ getD (r .x) a 0
+  pub below : (a : ℕ) → a < length (r .tails) → getD (r .x) a 0 ≤ getD (r .uppers) a 0
+
+-- every list as long as its arcs or nodes, every end a node, and units within bounds
 pub record Shaped (r : Residual) (nodes : ℕ) : Type 0 where
   pub heads-long : length (r .heads) ≡ length (r .tails)
   pub lowers-long : length (r .lowers) ≡ length (r .tails)
@@ -59,6 +64,7 @@ pub record Shaped (r : Residual) (nodes : ℕ) : Type 0 where
   pub nodes-few : nodes ≤ 255
   pub tails-in : (a : ℕ) → a < length (r .tails) → tailOf r a < nodes
   pub heads-in : (a : ℕ) → a < length (r .tails) → headOf r a < nodes
+  pub within : Within r
 
 -- A node's mark is below 255 once it is reached, and 0 at a source.
 abbrev pub reached : List ℕ → ℕ → Type 0

@@ -2,7 +2,7 @@
 ghost use mathlib.Core.Path.{_≡_};
 ghost use Prim.Native.Nat.{ℕ, _+_, _<_};
 ghost use lib.ListN.{length, getD};
-ghost use Rattle.residual.specs.Residual.{Tells, Ahead};
+ghost use Rattle.residual.specs.Residual.{Tells, Alike, Ahead};
 
 // The mark of a node that no source leads to.
 pub const UNREACHED: u8 = 255;
@@ -17,6 +17,22 @@ pub fn is_tight(cost: u64, low: u64, high: u64) -> bool
         return false;
     }
     if high - low != cost {
+        return false;
+    }
+    true
+}
+
+// Whether two nodes with these marks are both reached, or neither.
+pub fn is_alike(m: u8, n: u8) -> bool
+    ensures { λ r. ⌜ Tells r (Alike m n) ⌝ }
+{
+    if m == UNREACHED {
+        if n == UNREACHED {
+            return true;
+        }
+        return false;
+    }
+    if n == UNREACHED {
         return false;
     }
     true

@@ -1,4 +1,4 @@
-//! The arcs at each node, linked from the last one back; the queue of a search.
+//! The arcs at each node that can move, linked from the last one back; the queue of a search.
 ghost use mathlib.Core.Path.{_≡_};
 ghost use Prim.Native.Nat.{ℕ, _<_, _≤_};
 ghost use lib.ListN.{length, getD};
@@ -18,19 +18,23 @@ pub fn clear(last: &mut [u16])
     }
 }
 
-// For each node its last arc, one more than its number or 0, and for each arc the one before it at the same node.
-pub fn chain(ends: &[u8], last: &mut [u16], before: &mut [u16])
+// For each node its last arc that can move, one more than its number or 0, and for each arc the one before it at the same node.
+pub fn chain(ends: &[u8], last: &mut [u16], before: &mut [u16], lowers: &[u16], uppers: &[u16])
     requires { ⌜ length (now before) ≡ length (now ends) ⌝ }
+    requires { ⌜ length (now lowers) ≡ length (now ends) ⌝ }
+    requires { ⌜ length (now uppers) ≡ length (now ends) ⌝ }
     requires { ⌜ length (now ends) ≤ 1024 ⌝ }
     requires { ⌜ ((a : ℕ) → a < length (now ends) → getD (now ends) a 0 < length (now last)) ⌝ }
-    ensures { λ r. ⌜ Chain (now (ends .entry)) (length (now (last .entry))) (now (last .exit)) (now (before .exit)) ⌝ }
+    ensures { λ r. ⌜ Chain (now (ends .entry)) (now (lowers .entry)) (now (uppers .entry)) (length (now (last .entry))) (now (last .exit)) (now (before .exit)) ⌝ }
 {
     clear(last);
     let mut a = 0;
     while a < ends.len() {
         let v = end_of(ends, last.len(), a);
         before[a] = last[v];
-        last[v] = (a + 1) as u16;
+        if lowers[a] < uppers[a] {
+            last[v] = (a + 1) as u16;
+        }
         a += 1;
     }
 }

@@ -7,6 +7,7 @@ ghost use Rattle.residual.specs.Prices.{short, Sums, Slack, Lesser, Gap,
 use crate::arcs::UNREACHED;
 use crate::arcs::end_of;
 use crate::arcs::is_ahead;
+use crate::arcs::is_alike;
 
 // What is left of m without n, if anything.
 pub fn minus(m: u64, n: u64) -> u64
@@ -50,6 +51,9 @@ fn slack_at(
 {
     let t = end_of(tails, dist.len(), a);
     let h = end_of(heads, dist.len(), a);
+    if is_alike(dist[t], dist[h]) {
+        return 0;
+    }
     let up = is_ahead(dist[t], dist[h], x[a], uppers[a]);
     let down = is_ahead(dist[h], dist[t], lowers[a], x[a]);
     short_by(up, down, costs[a] + pot[t], pot[h])

@@ -72,7 +72,7 @@ pub fn augment(
     target: usize,
 ) -> usize
     requires { ⌜ Shaped (residual (now tails) (now heads) (now lowers) (now uppers) (now costs) (now x) (now pot)) (length (now dist)) ⌝ }
-    requires { ⌜ Workspace (now tails) (now heads) (length (now dist)) (now dist) (now via) (now queue) (now outs) (now outlinks) (now ins) (now inlinks) ⌝ }
+    requires { ⌜ Workspace (now tails) (now heads) (now lowers) (now uppers) (length (now dist)) (now dist) (now via) (now queue) (now outs) (now outlinks) (now ins) (now inlinks) ⌝ }
     requires { ⌜ length (now wanted) ≡ length (now dist) ⌝ }
     requires { ⌜ Fresh (now dist) ⌝ }
     requires { ⌜ target < length (now dist) ⌝ }

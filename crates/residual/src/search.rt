@@ -2,30 +2,15 @@
 ghost use mathlib.Core.Path.{_≡_};
 ghost use Prim.Native.Nat.{_<_, _-_};
 ghost use lib.ListN.{length, getD};
-ghost use Rattle.residual.specs.Residual.{Tells, Alike, Roomy, Far, residual, Shaped, Reach, Fresh};
+ghost use Rattle.residual.specs.Residual.{Tells, Roomy, Far, residual, Shaped, Reach, Fresh};
 ghost use Rattle.residual.specs.Chains.{Chain, Chains, Workspace};
 ghost use Rattle.residual.specs.Searches.{Standing, Underway, Further, SpentAt, Done, Sought};
 use crate::arcs::NO_NODE;
 use crate::arcs::UNREACHED;
 use crate::arcs::end_of;
+use crate::arcs::is_alike;
 use crate::arcs::is_tight;
 use crate::chains::enqueue_sources;
-
-// Whether two nodes with these marks are both reached, or neither.
-fn is_alike(m: u8, n: u8) -> bool
-    ensures { λ r. ⌜ Tells r (Alike m n) ⌝ }
-{
-    if m == UNREACHED {
-        if n == UNREACHED {
-            return true;
-        }
-        return false;
-    }
-    if n == UNREACHED {
-        return false;
-    }
-    true
-}
 
 // Whether there is room for a step on from a tail with this mark, or, where the tail is not reached, back to it.
 fn has_room(mark: u8, units: u16, lower: u16, upper: u16) -> bool
@@ -113,7 +98,7 @@ fn fan(
 ) -> usize
     requires { ⌜ Shaped (residual (now tails) (now heads) (now lowers) (now uppers) (now costs) (now x) (now pot)) (length (now dist)) ⌝ }
     requires { ⌜ length (now wanted) ≡ length (now dist) ⌝ }
-    requires { ⌜ Chain (now ends) (length (now dist)) (now last) (now before) ⌝ }
+    requires { ⌜ Chain (now ends) (now lowers) (now uppers) (length (now dist)) (now last) (now before) ⌝ }
     requires { ⌜ length (now ends) ≡ length (now tails) ⌝ }
     requires { ⌜ Standing (now dist) u ⌝ }
     requires { ⌜ Underway (residual (now tails) (now heads) (now lowers) (now uppers) (now costs) (now x) (now pot)) from count (now dist) (now via) (now queue) ⌝ }
@@ -162,7 +147,7 @@ fn visit(
 ) -> usize
     requires { ⌜ Shaped (residual (now tails) (now heads) (now lowers) (now uppers) (now costs) (now x) (now pot)) (length (now dist)) ⌝ }
     requires { ⌜ length (now wanted) ≡ length (now dist) ⌝ }
-    requires { ⌜ Chains (now tails) (now heads) (length (now dist)) (now outs) (now outlinks) (now ins) (now inlinks) ⌝ }
+    requires { ⌜ Chains (now tails) (now heads) (now lowers) (now uppers) (length (now dist)) (now outs) (now outlinks) (now ins) (now inlinks) ⌝ }
     requires { ⌜ Standing (now dist) u ⌝ }
     requires { ⌜ Underway (residual (now tails) (now heads) (now lowers) (now uppers) (now costs) (now x) (now pot)) from count (now dist) (now via) (now queue) ⌝ }
     ensures { λ n. ⌜ Further (residual (now (tails .entry)) (now (heads .entry)) (now (lowers .entry)) (now (uppers .entry)) (now (costs .entry)) (now (x .entry)) (now (pot .entry))) from count (now (dist .entry)) (now (queue .entry)) n (now (dist .exit)) (now (via .exit)) (now (queue .exit)) ⌝ }
@@ -232,7 +217,7 @@ pub fn search(
     inlinks: &[u16],
 ) -> usize
     requires { ⌜ Shaped (residual (now tails) (now heads) (now lowers) (now uppers) (now costs) (now x) (now pot)) (length (now dist)) ⌝ }
-    requires { ⌜ Workspace (now tails) (now heads) (length (now dist)) (now dist) (now via) (now queue) (now outs) (now outlinks) (now ins) (now inlinks) ⌝ }
+    requires { ⌜ Workspace (now tails) (now heads) (now lowers) (now uppers) (length (now dist)) (now dist) (now via) (now queue) (now outs) (now outlinks) (now ins) (now inlinks) ⌝ }
     requires { ⌜ length (now wanted) ≡ length (now dist) ⌝ }
     requires { ⌜ Fresh (now dist) ⌝ }
     ensures { λ v. ⌜ Sought (residual (now (tails .entry)) (now (heads .entry)) (now (lowers .entry)) (now (uppers .entry)) (now (costs .entry)) (now (x .entry)) (now (pot .entry))) from (now (dist .entry)) (now (wanted .entry)) (now (dist .exit)) (now (via .exit)) v ⌝ }

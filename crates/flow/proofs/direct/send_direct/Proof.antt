@@ -31,7 +31,7 @@ send-from-requires : tie.Need-send-from-requires Inv-loop μ-loop
 send-from-requires c κs =
     let l = c .before .before .before .before in
     let s = start l in
-    (l .loop .inv .0 .eased .ready, (subst (λ (n : ℕ). Chain (now (s .args .tails)) n (now (s .args .outs)) (now (s .args .outlinks))) (sym (l .loop .inv .0 .long)) (s .pre .1), c .before .before .before .loop-test .taken))
+    (l .loop .inv .0 .eased .ready, (subst (λ (n : ℕ). Chain (now (s .args .tails)) (now (s .args .lowers)) (now (s .args .uppers)) n (now (s .args .outs)) (now (s .args .outlinks))) (sym (l .loop .inv .0 .long)) (s .pre .1), c .before .before .before .loop-test .taken))
 
 add-v : tie.Need-add-v Inv-loop μ-loop
 add-v c =

@@ -115,7 +115,7 @@ module _ (p : tie.After-fewer-of2) where
   lacks = second-least units (p .before .before .before .before .before .before .before .before .before .fewer-of .result) (getD (now (s .args .uppers)) (s .args .a) 0 - getD (now (s .args .x)) (s .args .a) 0) (getD (now (s .args .left)) t 0) (getD (now (s .args .lack)) h 0) (p .fewer-of2 .ensures) (p .before .before .before .before .before .before .before .before .before .fewer-of .ensures)
 
   room : getD (now (s .args .x)) (s .args .a) 0 + units ≤ getD (now (s .args .uppers)) (s .args .a) 0
-  room = room-least units (p .before .before .before .before .before .before .before .before .before .fewer-of .result) (getD (now (s .args .x)) (s .args .a) 0) (getD (now (s .args .uppers)) (s .args .a) 0) (p .fewer-of2 .ensures) (s .pre .0 .below (s .args .a) (s .pre .1))
+  room = room-least units (p .before .before .before .before .before .before .before .before .before .fewer-of .result) (getD (now (s .args .x)) (s .args .a) 0) (getD (now (s .args .uppers)) (s .args .a) 0) (p .fewer-of2 .ensures) (s .pre .0 .shaped .within .below (s .args .a) (s .pre .1))
 
 end-of-requires : tie.Need-end-of-requires
 end-of-requires c κs = let s = c .before .before .before .before .before .before .before .before .before in (s .pre .1, s .pre .0 .shaped .tails-in)
@@ -185,7 +185,7 @@ slice-read-fewer-of-3 : tie.Need-slice-read-fewer-of-3
 slice-read-fewer-of-3 c = let s = c .before .before .before .before .before .before .before .before .before .before .before .before .before .before .before .before .before .before .before .before .before .before in in-arcs s (now (s .args .x)) (s .pre .0 .shaped .x-long)
 
 sub-fewer-of : tie.Need-sub-fewer-of
-sub-fewer-of c = let s = c .before .before .before .before .before .before .before .before .before .before .before .before .before .before .before .before .before .before .before .before .before .before in s .pre .0 .below (s .args .a) (s .pre .1)
+sub-fewer-of c = let s = c .before .before .before .before .before .before .before .before .before .before .before .before .before .before .before .before .before .before .before .before .before .before in s .pre .0 .shaped .within .below (s .args .a) (s .pre .1)
 
 fewer-of-requires-2 : tie.Need-fewer-of-requires-2
 fewer-of-requires-2 c κs = tt

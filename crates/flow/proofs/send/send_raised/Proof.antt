@@ -53,7 +53,7 @@ send-direct-requires : tie.Need-send-direct-requires
 send-direct-requires c κs =
     let d = c .before .before .before .before .before .before .before .before .before .before .deliver in
     let s = c .before .before .before .before .before .before .before .before .before .before .before .before .before .before .before .before .before .before .before .before .before .before .before .before .before .before .before .before .before .before .before .before .before .before .before .before .before .before .before .before .before .before .before .before .before .before .before .before .before .before in
-    (d .ensures .1 .ready, subst (λ (n : ℕ). Chain (now (s .args .tails)) n (now (s .args .outs)) (now (s .args .outlinks))) {x = length (now (s .args .left))} (left-kept (c .before .before .before .before .before .before .before .before .before .before)) (s .pre .1 .0 .chains .by-tail))
+    (d .ensures .1 .ready, subst (λ (n : ℕ). Chain (now (s .args .tails)) (now (s .args .lowers)) (now (s .args .uppers)) n (now (s .args .outs)) (now (s .args .outlinks))) {x = length (now (s .args .left))} (left-kept (c .before .before .before .before .before .before .before .before .before .before)) (s .pre .1 .0 .chains .by-tail))
 
 same-length-8 : tie.Need-same-length-8
 same-length-8 c = c .before .before .before .before .before .before .send-direct .kept .1 .1 .1 .1 .1 .0 ∙ c .before .before .before .before .before .before .before .before .before .before .before .before .before .before .before .before .before .deliver .kept .1 .1 .1 .1 .1 .0

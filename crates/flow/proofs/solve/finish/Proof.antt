@@ -66,7 +66,7 @@ settle-units-requires c κs =
     let r = emptied t (c .before .before .before .if1 .left) .ready in
     let node = sym (r .lack-long) in (
       subst (Shaped (net t)) node (r .shaped),
-      (r .priced, (s .pre .1 .1, subst (λ (m : ℕ). Chains (now (s .args .tails)) (now (s .args .heads)) m (now (s .args .outs)) (now (s .args .outlinks)) (now (s .args .ins)) (now (s .args .inlinks))) {x = length (now (s .args .left))} (lacks-kept t (r .lack-long)) (s .pre .1 .0))),
+      (r .priced, (s .pre .1 .1, subst (λ (m : ℕ). Chains (now (s .args .tails)) (now (s .args .heads)) (now (s .args .lowers)) (now (s .args .uppers)) m (now (s .args .outs)) (now (s .args .outlinks)) (now (s .args .ins)) (now (s .args .inlinks))) {x = length (now (s .args .left))} (lacks-kept t (r .lack-long)) (s .pre .1 .0))),
     )
 
 same-length-5 : tie.Need-same-length-5

@@ -11,7 +11,7 @@ chain-requires : tie.Need-chain-requires
 chain-requires c κs =
     let s = c .before .before .before .before .before .before .before .before .before .before .before .before .before .before in (
       s .pre .1 .1 .outlinks-long,
-      (s .pre .0 .arcs-few, λ a l. omega (arith, s .pre .1 .1 .outs-long, s .pre .0 .tails-in a l)),
+      (s .pre .0 .lowers-long, (s .pre .0 .uppers-long, (s .pre .0 .arcs-few, λ a l. omega (arith, s .pre .1 .1 .outs-long, s .pre .0 .tails-in a l)))),
     )
 
 chain-requires-2 : tie.Need-chain-requires-2
@@ -19,8 +19,14 @@ chain-requires-2 c κs =
     let s = c .before .before .before .before .before .before .before .before .before .before .before .before .before .before .before .before .before .before .before .before .before in (
       s .pre .1 .1 .inlinks-long ∙ sym (s .pre .0 .heads-long),
       (
-        omega (arith, s .pre .0 .heads-long, s .pre .0 .arcs-few),
-        λ a l. omega (arith, s .pre .1 .1 .ins-long, s .pre .0 .heads-in a (omega (arith, l, s .pre .0 .heads-long))),
+        s .pre .0 .lowers-long ∙ sym (s .pre .0 .heads-long),
+        (
+          s .pre .0 .uppers-long ∙ sym (s .pre .0 .heads-long),
+          (
+            omega (arith, s .pre .0 .heads-long, s .pre .0 .arcs-few),
+            λ a l. omega (arith, s .pre .1 .1 .ins-long, s .pre .0 .heads-in a (omega (arith, l, s .pre .0 .heads-long))),
+          ),
+        ),
       ),
     )
 
@@ -33,8 +39,8 @@ solve-linked-requires c κs =
       (
         s .pre .1 .0,
         record {
-          by-tail = subst (λ (m : ℕ). Chain (now (s .args .tails)) m (f .last .1 .0) (f .last .1 .1 .0)) (s .pre .1 .1 .outs-long) (f .ensures);
-          by-head = subst (λ (m : ℕ). Chain (now (s .args .heads)) m (g .last .1 .0) (g .last .1 .1 .0)) (s .pre .1 .1 .ins-long) (g .ensures);
+          by-tail = subst (λ (m : ℕ). Chain (now (s .args .tails)) (now (s .args .lowers)) (now (s .args .uppers)) m (f .last .1 .0) (f .last .1 .1 .0)) (s .pre .1 .1 .outs-long) (f .ensures);
+          by-head = subst (λ (m : ℕ). Chain (now (s .args .heads)) (now (s .args .lowers)) (now (s .args .uppers)) m (g .last .1 .0) (g .last .1 .1 .0)) (s .pre .1 .1 .ins-long) (g .ensures);
         },
       ),
     )

@@ -39,7 +39,7 @@ settle-requires c κs =
     let n = sym (node s) in
     record {
       shaped = subst (Shaped (residual (now (s .args .tails)) (now (s .args .heads)) (now (s .args .lowers)) (now (s .args .uppers)) (now (s .args .costs)) (now (s .args .x)) (now (s .args .pot)))) n (s .pre .0);
-      space = record { dist-long = same s; via-long = same s; queue-long = same s; chains = subst (λ (m : ℕ). Chains (now (s .args .tails)) (now (s .args .heads)) m (now (s .args .outs)) (now (s .args .outlinks)) (now (s .args .ins)) (now (s .args .inlinks))) n (s .pre .1 .1 .1) };
+      space = record { dist-long = same s; via-long = same s; queue-long = same s; chains = subst (λ (m : ℕ). Chains (now (s .args .tails)) (now (s .args .heads)) (now (s .args .lowers)) (now (s .args .uppers)) m (now (s .args .outs)) (now (s .args .outlinks)) (now (s .args .ins)) (now (s .args .inlinks))) n (s .pre .1 .1 .1) };
       wanted-long = n;
       priced = s .pre .1 .0;
       capped = s .pre .1 .1 .0;

@@ -1,11 +1,12 @@
 -- `slack_at`: the tests on the arc tell how short of tight it is.
-use mathlib.Core.Path.{ap}
+use mathlib.Core.Path.{ap, subst}
+use mathlib.Core.Bool.{Bool}
 use Prim.Native.Nat.{ℕ}
 use native.Mathlib.Omega.{arith}
 use denote.Ref.{now}
 use lib.ListN.{getD}
-use Rattle.residual.specs.Residual.{residual}
-use Rattle.residual.proofs.Gaps.{slack}
+use Rattle.residual.specs.Residual.{residual, Tells, Alike}
+use Rattle.residual.proofs.Gaps.{slack, slack-alike}
 use borrow.Author.Needs.{needs}
 use Rattle.residual.proofs.prices.slack_at.Statement.{statement}
 use Rattle.residual.proofs.prices.slack_at.Tie as tie
@@ -17,6 +18,30 @@ end-of-requires-2 : tie.Need-end-of-requires-2
 end-of-requires-2 c κs =
     let s = c .before .before .before .before .before .before .before .before .before in
     (omega (arith, s .pre), λ k h. s .pre .0 .heads-in k (omega (arith, s .pre)))
+
+shared-slice-read-is-alike : tie.Need-shared-slice-read-is-alike
+shared-slice-read-is-alike c = search needs
+
+shared-slice-read-is-alike-2 : tie.Need-shared-slice-read-is-alike-2
+shared-slice-read-is-alike-2 c = search needs
+
+is-alike-requires : tie.Need-is-alike-requires
+is-alike-requires c κs = search needs
+
+returns : tie.Need-returns
+returns c =
+    let t = c .before .before .before .before .before in
+    let h = c .before .before .before .before in
+    let s = t .before .before .before .before .before .before .before .before .before in
+    slack-alike
+    (residual (now (s .args .tails)) (now (s .args .heads)) (now (s .args .lowers)) (now (s .args .uppers)) (now (s .args .costs)) (now (s .args .x)) (now (s .args .pot)))
+    (now (s .args .dist))
+    (s .args .a)
+    (t .end-of .result)
+    (h .end-of2 .result)
+    (t .end-of .ensures .0)
+    (h .end-of2 .ensures .0)
+    (subst (λ (b : Bool). Tells b (Alike (getD (now (s .args .dist)) (t .end-of .result) 0) (getD (now (s .args .dist)) (h .end-of2 .result) 0))) (c .if1 .taken) (c .before .is-alike .ensures))
 
 shared-slice-read-is-ahead : tie.Need-shared-slice-read-is-ahead
 shared-slice-read-is-ahead c = search needs
@@ -74,7 +99,7 @@ shared-slice-read-short-by-2 c = search needs
 
 add-short-by : tie.Need-add-short-by
 add-short-by c =
-    let t = c .before .before .before .before .before .before .before .before .before .before .before .before .before in
+    let t = c .before .before .before .before .before .before .before .before .before .before .before .before .before .before .before .before .before in
     let s = t .before .before .before .before .before .before .before .before .before in
     omega (arith, s .pre .1 .0 (s .args .a) (s .pre .1 .1), ap (λ (v : ℕ). getD (now (s .args .pot)) v 0) (t .end-of .ensures .0))
 
@@ -87,11 +112,11 @@ shared-slice-read-short-by-3 c = search needs
 short-by-requires : tie.Need-short-by-requires
 short-by-requires c κs = search needs
 
-returns : tie.Need-returns
-returns c =
+returns-2 : tie.Need-returns-2
+returns-2 c =
     let down = c .before .before .before .before in
     let up = down .before .before .before .before .before in
-    let h = up .before .before .before .before .before in
+    let h = up .before .before .before .before .before .before .before .before .before in
     let t = h .before in
     let s = t .before .before .before .before .before .before .before .before .before in
     slack
@@ -115,6 +140,10 @@ slack-at-spec =
     (tie.spec
     end-of-requires
     end-of-requires-2
+    shared-slice-read-is-alike
+    shared-slice-read-is-alike-2
+    is-alike-requires
+    returns
     shared-slice-read-is-ahead
     shared-slice-read-is-ahead-2
     mul-is-ahead
@@ -137,4 +166,4 @@ slack-at-spec =
     mul-short-by-3
     shared-slice-read-short-by-3
     short-by-requires
-    returns)
+    returns-2)

@@ -50,10 +50,10 @@ module _ (l : tie.At-loop Inv-loop μ-loop) where
   -- a turn, at the arc before `at`
   module _ (some : s .args .from < l .loop .at) where
     arc : l .loop .at - 1 < length (now (s .args .tails))
-    arc = fan-arc (s .pre .1 .1 .0) (s .pre .1 .1 .1 .0) (s .pre .1 .1 .1 .1 .0 .node) f (s .pre .1 .1 .1 .1 .0 .marked) some
+    arc = fan-arc (s .pre .1 .1 .0) (s .pre .1 .1 .1 .0) (s .pre .0 .within) (s .pre .1 .1 .1 .1 .0 .node) f (s .pre .1 .1 .1 .1 .0 .marked) some
 
     over : ShutAt (net s) (l .loop .dist) (l .loop .at - 1) → Fan (net s) (s .args .from) (now (s .args .ends)) (s .args .u) (s .args .count) (now (s .args .dist)) (now (s .args .queue)) (getD (now (s .args .before)) (l .loop .at - 1) 0) (l .loop .next) (l .loop .dist) (l .loop .via) (l .loop .queue)
-    over = fan-over (s .pre .1 .1 .0) (s .pre .1 .1 .1 .0) (s .pre .1 .1 .1 .1 .0 .node) f (s .pre .1 .1 .1 .1 .0 .marked) some
+    over = fan-over (s .pre .1 .1 .0) (s .pre .1 .1 .1 .0) (s .pre .0 .within) (s .pre .1 .1 .1 .1 .0 .node) f (s .pre .1 .1 .1 .1 .0 .marked) some
 
     module _ (v : ℕ) (o : Opens (net s) (l .loop .dist) (l .loop .at - 1) v) where
       mark : l .loop .next < 255
@@ -63,10 +63,10 @@ module _ (l : tie.At-loop Inv-loop μ-loop) where
       place = reach-place (omega arith) arc o (f .further .underway)
 
       further : Further (net s) (s .args .from) (s .args .count) (now (s .args .dist)) (now (s .args .queue)) (l .loop .next + 1) (set (l .loop .dist) v (l .loop .next)) (set (l .loop .via) v (l .loop .at - 1)) (set (l .loop .queue) (l .loop .next) v)
-      further = fan-further (s .pre .1 .1 .0) (s .pre .1 .1 .1 .0) (s .pre .1 .1 .1 .1 .0 .node) f (s .pre .1 .1 .1 .1 .0 .marked) some o
+      further = fan-further (s .pre .1 .1 .0) (s .pre .1 .1 .1 .0) (s .pre .0 .within) (s .pre .1 .1 .1 .1 .0 .node) f (s .pre .1 .1 .1 .1 .0 .marked) some o
 
       went : Fan (net s) (s .args .from) (now (s .args .ends)) (s .args .u) (s .args .count) (now (s .args .dist)) (now (s .args .queue)) (getD (now (s .args .before)) (l .loop .at - 1) 0) (l .loop .next + 1) (set (l .loop .dist) v (l .loop .next)) (set (l .loop .via) v (l .loop .at - 1)) (set (l .loop .queue) (l .loop .next) v)
-      went = fan-reach (s .pre .1 .1 .0) (s .pre .1 .1 .1 .0) (s .pre .1 .1 .1 .1 .0 .node) f (s .pre .1 .1 .1 .1 .0 .marked) some o
+      went = fan-reach (s .pre .1 .1 .0) (s .pre .1 .1 .1 .0) (s .pre .0 .within) (s .pre .1 .1 .1 .1 .0 .node) f (s .pre .1 .1 .1 .1 .0 .marked) some o
 
 -- an arc reaches a new node
 abbrev head : tie.Then1 Inv-loop μ-loop → tie.At-loop Inv-loop μ-loop
@@ -89,7 +89,7 @@ cast-at c =
 loop-holds : tie.Need-loop-holds Inv-loop μ-loop
 loop-holds c =
     let s = c .before .before .before .before .before .before .before .before .before .before .before .before .before .before .before in
-    fan-start (s .pre .1 .1 .0) (s .pre .1 .1 .1 .0) (s .pre .1 .1 .1 .1 .0 .node) (s .pre .1 .1 .1 .1 .1)
+    fan-start (s .pre .1 .1 .0) (s .pre .1 .1 .1 .0) (s .pre .0 .within) (s .pre .1 .1 .1 .1 .0 .node) (s .pre .1 .1 .1 .1 .1)
 
 sub-a : tie.Need-sub-a Inv-loop μ-loop
 sub-a c = omega arith
@@ -198,7 +198,7 @@ returns-2 : tie.Need-returns-2 Inv-loop μ-loop
 returns-2 c =
     let l = c .before in
     let s = start l in
-    (f l .further, λ _. fan-done (s .pre .1 .1 .0) (s .pre .1 .1 .1 .0) (s .pre .1 .1 .1 .1 .0 .node) (f l) (c .loop-test .left))
+    (f l .further, λ _. fan-done (s .pre .1 .1 .0) (s .pre .1 .1 .1 .0) (s .pre .0 .within) (s .pre .1 .1 .1 .1 .0 .node) (f l) (c .loop-test .left))
 
 pub fan-spec : {M : Type 1} → statement M
 fan-spec =

@@ -34,8 +34,8 @@ module _ (l : tie.At-loop Inv-loop μ-loop) where
   shaped : Shaped (net s) (length (l .loop .dist))
   shaped = subst (Shaped (net s)) (sym (g .long)) (s .pre .0)
 
-  chains : Chains (now (s .args .tails)) (now (s .args .heads)) (length (l .loop .dist)) (now (s .args .outs)) (now (s .args .outlinks)) (now (s .args .ins)) (now (s .args .inlinks))
-  chains = subst (λ (n : ℕ). Chains (now (s .args .tails)) (now (s .args .heads)) n (now (s .args .outs)) (now (s .args .outlinks)) (now (s .args .ins)) (now (s .args .inlinks))) (sym (g .long)) (s .pre .1 .0 .chains)
+  chains : Chains (now (s .args .tails)) (now (s .args .heads)) (now (s .args .lowers)) (now (s .args .uppers)) (length (l .loop .dist)) (now (s .args .outs)) (now (s .args .outlinks)) (now (s .args .ins)) (now (s .args .inlinks))
+  chains = subst (λ (n : ℕ). Chains (now (s .args .tails)) (now (s .args .heads)) (now (s .args .lowers)) (now (s .args .uppers)) n (now (s .args .outs)) (now (s .args .outlinks)) (now (s .args .ins)) (now (s .args .inlinks))) (sym (g .long)) (s .pre .1 .0 .chains)
 
   via-kept : length (l .loop .via) ≡ length (now (s .args .via))
   via-kept = g .underway .via-long ∙ g .long ∙ sym (s .pre .1 .0 .via-long)

@@ -1,8 +1,8 @@
 -- `is_alike`: where one mark is that of a node not reached and the other is not, they are not alike.
 use native.Mathlib.Omega.{arith}
 use borrow.Author.Needs.{needs}
-use Rattle.residual.proofs.search.is_alike.Statement.{statement}
-use Rattle.residual.proofs.search.is_alike.Tie as tie
+use Rattle.residual.proofs.arcs.is_alike.Statement.{statement}
+use Rattle.residual.proofs.arcs.is_alike.Tie as tie
 
 returns : tie.Need-returns
 returns c = search needs
