@@ -73,8 +73,9 @@ enum plates_refusal {
  *
  * 0: the first *long_ bytes of `out` are the shape file and the bytes behind
  * them are as before; *bends is its total bends. The shape meets H1 to H4,
- * and it comes first among all shapes of the plate: fewest bends, then the
- * smaller right bends of darts 0, 1, 2 and so on, then the smaller angles.
+ * and it comes first among all shapes of the plate: fewest bends, then fewest
+ * posts with exactly two strip ends and no angle of 2, then the smaller right
+ * bends of darts 0, 1, 2 and so on, then the smaller angles.
  * *long_ is 16 + 4 * strips, plus 3 and the remark's length if there is one;
  * 611 bytes are always enough.
  *

@@ -66,9 +66,10 @@ pub struct Verdict {
 
 /// Writes the best shape of a plate list to the front of `out`.
 ///
-/// The best shape has the fewest bends; among equal totals it has the smaller
-/// right bends of darts 0, 1, 2 and so on, then the smaller angles. Its length
-/// is 16 + 4 · strips, plus 3 and the remark's length where there is a remark.
+/// The best shape has the fewest bends; among equal totals it has the fewest
+/// posts with exactly two strip ends and no angle of 2, then the smaller right
+/// bends of darts 0, 1, 2 and so on, then the smaller angles. Its length is
+/// 16 + 4 · strips, plus 3 and the remark's length where there is a remark.
 /// The bytes of `out` behind the shape stay as they are.
 ///
 /// # Errors
