@@ -100,14 +100,12 @@ module _ {next : List ℕ} {n d number : ℕ} {face₀ : List ℕ} {met₀ : Lis
           at-most n (orbit (nextOf next) n d) (orbit-distinct (nextOf next) n o d l) (orbit-all-below (nextOf next) n o d l),
         )
 
-    pub labelling-done : nextOf next at ≡ d → FaceLabelled next n d number face₀ met₀ (record { face = set face at number; met = set met at true; size = size + 1 })
+    pub labelling-done : nextOf next at ≡ d → FaceLabelled next n d number face₀ met₀ (set face at number) (set met at true) (size + 1)
     labelling-done q =
         record {
-          face-long = m .face-long;
-          met-long = m .met-long;
           face-at = λ x. m .face-at x ∙ ap (λ (ds : List ℕ). pick (isIn x ds) number (getD face₀ x 0)) (sym all);
           met-at = λ x. m .met-at x ∙ ap (λ (ds : List ℕ). isIn x ds || getD met₀ x false) (sym all);
-          size = omega (arith, h .sized, ap length all, length-append (h .done) (at ∷ []));
+          sized = omega (arith, h .sized, ap length all, length-append (h .done) (at ∷ []));
         }
       where
         all : orbit (nextOf next) n d ≡ h .done ++ (at ∷ [])

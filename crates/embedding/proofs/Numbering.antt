@@ -17,8 +17,6 @@ use Rattle.finite.proofs.Tests.{not-true-false, and-both, or-left-false, or-rig
 use Rattle.embedding.specs.Plates.{pick, isIn, Plate, darts, after, faceOf, isLowest, facesFrom, faces}
 use Rattle.embedding.specs.Steps.{nextOf, FaceLabelled}
 use Rattle.embedding.specs.Read.{lead, placeOf, faceNumber, faceSize, Follows, Numbered, Fitting, FacesLabelled}
-use Rattle.embedding.specs.declared.Label.{Label}
-use Rattle.embedding.specs.declared.Labelled.{Labelled}
 use Rattle.embedding.proofs.Faces.{face-is, from-in}
 
 append-none : (xs : List ℕ) → xs ++ [] ≡ xs
@@ -104,20 +102,20 @@ module _ (p : Plate) where
     led-self d l e =
         subst (λ (u : ℕ). isLowest u (faceOf p u) ≡ true) {x = lead p d} {y = d} (omega (arith, lead-most d l, ltb-false (lead p d) d e)) (lead-is-lowest d l)
 
-    module _ (d : ℕ) (l : d < darts p) (s : Labelled) (h : Numbered p d s) where
+    module _ (d : ℕ) (l : d < darts p) {face : List ℕ} {met : List Bool} {sizes : List ℕ} {count : ℕ} (h : Numbered p d face met sizes count) where
       -- d's face was labelled before
-      pub numbered-same : getD (s .met) d false ≡ true → Numbered p (d + 1) s
+      pub numbered-same : getD met d false ≡ true → Numbered p (d + 1) face met sizes count
       numbered-same e =
           record {
-            count = h .count ∙ ap length (sym same);
-            met = λ x k. h .met x k ∙ sym (still x k);
-            face = table-cong 256 (upTo (darts p) (λ x. pick (ltb (lead p x) d) (length (facesFrom (lead p x) 0 p)) 0)) (upTo (darts p) (λ x. pick (ltb (lead p x) (d + 1)) (length (facesFrom (lead p x) 0 p)) 0)) (s .face)
-                (λ x m. by x (decLt x (darts p))) (h .face);
-            sizes = subst (λ (fs : List ℕ). Table 256 (upTo (s .faces) (λ k. length (faceOf p (getD fs k 0)))) (s .sizes)) (sym same) (h .sizes);
+            counted = h .counted ∙ ap length (sym same);
+            met-at = λ x k. h .met-at x k ∙ sym (still x k);
+            face-table = table-cong 256 (upTo (darts p) (λ x. pick (ltb (lead p x) d) (length (facesFrom (lead p x) 0 p)) 0)) (upTo (darts p) (λ x. pick (ltb (lead p x) (d + 1)) (length (facesFrom (lead p x) 0 p)) 0)) face
+                (λ x m. by x (decLt x (darts p))) (h .face-table);
+            size-table = subst (λ (fs : List ℕ). Table 256 (upTo count (λ k. length (faceOf p (getD fs k 0)))) sizes) (sym same) (h .size-table);
           }
         where
           low : isLowest d (faceOf p d) ≡ false
-          low = led-low d l (sym (h .met d l) ∙ e)
+          low = led-low d l (sym (h .met-at d l) ∙ e)
 
           same : facesFrom (d + 1) 0 p ≡ facesFrom d 0 p
           same = faces-next d false low ∙ append-none (facesFrom d 0 p)
@@ -132,22 +130,22 @@ module _ (p : Plate) where
               ∙ sym (up-from (darts p) (λ x. pick (ltb (lead p x) (d + 1)) (length (facesFrom (lead p x) 0 p)) 0) x (omega arith))
 
       -- d's face is new
-      pub numbered-new : getD (s .met) d false ≡ false → s .faces < 256 → (g : List ℕ) (m : List Bool) (size : ℕ)
-          → length g ≡ 256 → ((x : ℕ) → getD g x 0 ≡ pick (isIn x (faceOf p d)) (s .faces) (getD (s .face) x 0))
-          → ((x : ℕ) → getD m x false ≡ isIn x (faceOf p d) || getD (s .met) x false) → size ≡ length (faceOf p d)
-          → Numbered p (d + 1) (record { face = g; met = m; sizes = set (s .sizes) (s .faces) size; faces = s .faces + 1 })
-      numbered-new e few g m size long gx mx sz =
+      pub numbered-new : getD met d false ≡ false → count < 256 → {face′ : List ℕ} {met′ : List Bool} {size : ℕ}
+          → length face′ ≡ 256 → ((x : ℕ) → getD face′ x 0 ≡ pick (isIn x (faceOf p d)) count (getD face x 0))
+          → ((x : ℕ) → getD met′ x false ≡ isIn x (faceOf p d) || getD met x false) → size ≡ length (faceOf p d)
+          → Numbered p (d + 1) face′ met′ (set sizes count size) (count + 1)
+      numbered-new e few {size = size} long gx mx sz =
           record {
-            count = omega (arith, h .count, ap length next, length-append (facesFrom d 0 p) (d ∷ []));
-            met = λ x k. mx x ∙ ap₂ (λ (t u : Bool). t || u) (in-is x k) (h .met x k) ∙ sym (ltb-next (lead p x) d);
-            face = record { size = long; at = λ x k. gx x ∙ by x k (decLt x (darts p)) };
-            sizes = table-set 256 (upTo (s .faces) (λ k. length (faceOf p (getD (facesFrom d 0 p) k 0)))) (upTo (s .faces + 1) (λ k. length (faceOf p (getD (facesFrom (d + 1) 0 p) k 0)))) (s .sizes) (s .faces) size (h .sizes) few
-                (sz ∙ ap (λ (u : ℕ). length (faceOf p u)) (sym last) ∙ sym (up-below (s .faces + 1) (λ k. length (faceOf p (getD (facesFrom (d + 1) 0 p) k 0))) (s .faces) (omega arith)))
-                (λ k q. earlier k q (decLt k (s .faces)));
+            counted = omega (arith, h .counted, ap length next, length-append (facesFrom d 0 p) (d ∷ []));
+            met-at = λ x k. mx x ∙ ap₂ (λ (t u : Bool). t || u) (in-is x k) (h .met-at x k) ∙ sym (ltb-next (lead p x) d);
+            face-table = record { size = long; at = λ x k. gx x ∙ by x k (decLt x (darts p)) };
+            size-table = table-set 256 (upTo count (λ k. length (faceOf p (getD (facesFrom d 0 p) k 0)))) (upTo (count + 1) (λ k. length (faceOf p (getD (facesFrom (d + 1) 0 p) k 0)))) sizes count size (h .size-table) few
+                (sz ∙ ap (λ (u : ℕ). length (faceOf p u)) (sym last) ∙ sym (up-below (count + 1) (λ k. length (faceOf p (getD (facesFrom (d + 1) 0 p) k 0))) count (omega arith)))
+                (λ k q. earlier k q (decLt k count));
           }
         where
           low : isLowest d (faceOf p d) ≡ true
-          low = led-self d l (sym (h .met d l) ∙ e)
+          low = led-self d l (sym (h .met-at d l) ∙ e)
 
           next : facesFrom (d + 1) 0 p ≡ facesFrom d 0 p ++ (d ∷ [])
           next = faces-next d true low
@@ -155,40 +153,40 @@ module _ (p : Plate) where
           in-is : (x : ℕ) → x < darts p → isIn x (faceOf p d) ≡ eqb d (lead p x)
           in-is x k = ap (λ (t : Bool). t && isIn x (faceOf p d)) (sym low) ∙ leads-is d x l k
 
-          last : getD (facesFrom (d + 1) 0 p) (s .faces) 0 ≡ d
-          last = ap₂ (λ (fs : List ℕ) (k : ℕ). getD fs k 0) next (h .count) ∙ getD-append-seam (facesFrom d 0 p) d [] 0
+          last : getD (facesFrom (d + 1) 0 p) count 0 ≡ d
+          last = ap₂ (λ (fs : List ℕ) (k : ℕ). getD fs k 0) next (h .counted) ∙ getD-append-seam (facesFrom d 0 p) d [] 0
 
-          earlier : (k : ℕ) → (k ≡ s .faces → ⊥) → Dec (k < s .faces) → upTo (s .faces + 1) (λ k. length (faceOf p (getD (facesFrom (d + 1) 0 p) k 0))) k ≡ upTo (s .faces) (λ k. length (faceOf p (getD (facesFrom d 0 p) k 0))) k
+          earlier : (k : ℕ) → (k ≡ count → ⊥) → Dec (k < count) → upTo (count + 1) (λ k. length (faceOf p (getD (facesFrom (d + 1) 0 p) k 0))) k ≡ upTo count (λ k. length (faceOf p (getD (facesFrom d 0 p) k 0))) k
           earlier k q (yes c) =
-              up-below (s .faces + 1) (λ k. length (faceOf p (getD (facesFrom (d + 1) 0 p) k 0))) k (omega arith)
-              ∙ ap (λ (u : ℕ). length (faceOf p u)) (ap (λ (fs : List ℕ). getD fs k 0) next ∙ List·getD-append (facesFrom d 0 p) (d ∷ []) 0 k (omega (arith, h .count)))
-              ∙ sym (up-below (s .faces) (λ k. length (faceOf p (getD (facesFrom d 0 p) k 0))) k c)
+              up-below (count + 1) (λ k. length (faceOf p (getD (facesFrom (d + 1) 0 p) k 0))) k (omega arith)
+              ∙ ap (λ (u : ℕ). length (faceOf p u)) (ap (λ (fs : List ℕ). getD fs k 0) next ∙ List·getD-append (facesFrom d 0 p) (d ∷ []) 0 k (omega (arith, h .counted)))
+              ∙ sym (up-below count (λ k. length (faceOf p (getD (facesFrom d 0 p) k 0))) k c)
           earlier k q (no c) =
-              up-from (s .faces + 1) (λ k. length (faceOf p (getD (facesFrom (d + 1) 0 p) k 0))) k (omega (arith, q))
-              ∙ sym (up-from (s .faces) (λ k. length (faceOf p (getD (facesFrom d 0 p) k 0))) k (omega arith))
+              up-from (count + 1) (λ k. length (faceOf p (getD (facesFrom (d + 1) 0 p) k 0))) k (omega (arith, q))
+              ∙ sym (up-from count (λ k. length (faceOf p (getD (facesFrom d 0 p) k 0))) k (omega arith))
 
           -- the label of x, new or old
-          label : (x : ℕ) (t u : Bool) → eqb d (lead p x) ≡ t → pick t (s .faces) (pick u (length (facesFrom (lead p x) 0 p)) 0) ≡ pick (t || u) (length (facesFrom (lead p x) 0 p)) 0
-          label x true u q = h .count ∙ ap (λ (j : ℕ). length (facesFrom j 0 p)) (eqb-true d (lead p x) q)
+          label : (x : ℕ) (t u : Bool) → eqb d (lead p x) ≡ t → pick t count (pick u (length (facesFrom (lead p x) 0 p)) 0) ≡ pick (t || u) (length (facesFrom (lead p x) 0 p)) 0
+          label x true u q = h .counted ∙ ap (λ (j : ℕ). length (facesFrom j 0 p)) (eqb-true d (lead p x) q)
           label x false u q = refl
 
-          by : (x : ℕ) → x < 256 → Dec (x < darts p) → pick (isIn x (faceOf p d)) (s .faces) (getD (s .face) x 0) ≡ upTo (darts p) (λ x. pick (ltb (lead p x) (d + 1)) (length (facesFrom (lead p x) 0 p)) 0) x
+          by : (x : ℕ) → x < 256 → Dec (x < darts p) → pick (isIn x (faceOf p d)) count (getD face x 0) ≡ upTo (darts p) (λ x. pick (ltb (lead p x) (d + 1)) (length (facesFrom (lead p x) 0 p)) 0) x
           by x b (yes k) =
-              ap₂ (λ (t : Bool) (y : ℕ). pick t (s .faces) y) (in-is x k) (h .face .at x b ∙ up-below (darts p) (λ x. pick (ltb (lead p x) d) (length (facesFrom (lead p x) 0 p)) 0) x k)
+              ap₂ (λ (t : Bool) (y : ℕ). pick t count y) (in-is x k) (h .face-table .at x b ∙ up-below (darts p) (λ x. pick (ltb (lead p x) d) (length (facesFrom (lead p x) 0 p)) 0) x k)
               ∙ label x (eqb d (lead p x)) (ltb (lead p x) d) refl
               ∙ ap (λ (t : Bool). pick t (length (facesFrom (lead p x) 0 p)) 0) (sym (ltb-next (lead p x) d))
               ∙ sym (up-below (darts p) (λ x. pick (ltb (lead p x) (d + 1)) (length (facesFrom (lead p x) 0 p)) 0) x k)
           by x b (no k) =
-              ap₂ (λ (t : Bool) (y : ℕ). pick t (s .faces) y) (outside d x l (omega arith)) (h .face .at x b ∙ up-from (darts p) (λ x. pick (ltb (lead p x) d) (length (facesFrom (lead p x) 0 p)) 0) x (omega arith))
+              ap₂ (λ (t : Bool) (y : ℕ). pick t count y) (outside d x l (omega arith)) (h .face-table .at x b ∙ up-from (darts p) (λ x. pick (ltb (lead p x) d) (length (facesFrom (lead p x) 0 p)) 0) x (omega arith))
               ∙ sym (up-from (darts p) (λ x. pick (ltb (lead p x) (d + 1)) (length (facesFrom (lead p x) 0 p)) 0) x (omega arith))
 
-    pub numbered-done : (d : ℕ) → d ≡ darts p → (s : Labelled) → Numbered p d s → FacesLabelled p s
-    numbered-done d q s h =
+    pub numbered-done : (d : ℕ) → d ≡ darts p → {face : List ℕ} {met : List Bool} {sizes : List ℕ} {count : ℕ} → Numbered p d face met sizes count → FacesLabelled p (record { face = face; sizes = sizes; faces = count })
+    numbered-done d q {face} {met} {sizes} {count} h =
         record {
-          count = h .count ∙ ap (λ (k : ℕ). length (facesFrom k 0 p)) q;
-          face = table-cong 256 (upTo (darts p) (λ x. pick (ltb (lead p x) d) (length (facesFrom (lead p x) 0 p)) 0)) (upTo (darts p) (faceNumber p)) (s .face) (λ x m. by x (decLt x (darts p))) (h .face);
-          sizes = subst (λ (k : ℕ). Table 256 (upTo k (faceSize p)) (s .sizes)) (h .count ∙ ap (λ (k : ℕ). length (facesFrom k 0 p)) q)
-              (subst (λ (k : ℕ). Table 256 (upTo (s .faces) (λ i. length (faceOf p (getD (facesFrom k 0 p) i 0)))) (s .sizes)) q (h .sizes));
+          count = h .counted ∙ ap (λ (k : ℕ). length (facesFrom k 0 p)) q;
+          face = table-cong 256 (upTo (darts p) (λ x. pick (ltb (lead p x) d) (length (facesFrom (lead p x) 0 p)) 0)) (upTo (darts p) (faceNumber p)) face (λ x m. by x (decLt x (darts p))) (h .face-table);
+          sizes = subst (λ (k : ℕ). Table 256 (upTo k (faceSize p)) sizes) (h .counted ∙ ap (λ (k : ℕ). length (facesFrom k 0 p)) q)
+              (subst (λ (k : ℕ). Table 256 (upTo count (λ i. length (faceOf p (getD (facesFrom k 0 p) i 0)))) sizes) q (h .size-table));
         }
       where
         by : (x : ℕ) → Dec (x < darts p) → upTo (darts p) (λ x. pick (ltb (lead p x) d) (length (facesFrom (lead p x) 0 p)) 0) x ≡ upTo (darts p) (faceNumber p) x
@@ -215,28 +213,29 @@ module _ {p : Plate} {n : ℕ} {next : List ℕ} (w : Follows p n next) (b : n �
       ap (λ (k : ℕ). walk (nextOf next) k d d) (w .many) ∙ walk-cong (nextOf next) (after p) (darts p) agree (follows-one .below) (darts p) d d (omega (arith, w .many))
       ∙ ap (λ (G : ℕ → List ℕ). G d) (sym (face-is p))
 
-  -- what labelling d's face gives
-  pub numbered-more : (d : ℕ) → d < n → (s : Labelled) → Fitting d s → getD (s .met) d false ≡ false → (f : Label) → FaceLabelled next n d (s .faces) (s .face) (s .met) f
-      → Numbered p d s → Numbered p (d + 1) (record { face = f .face; met = f .met; sizes = set (s .sizes) (s .faces) (f .size); faces = s .faces + 1 })
-  numbered-more d l s g e f a h =
-      numbered-new p follows-one d (omega (arith, w .many)) s h e (omega (arith, g .few)) (f .face) (f .met) (f .size) (a .face-long)
-      (λ x. a .face-at x ∙ ap (λ (ds : List ℕ). pick (isIn x ds) (s .faces) (getD (s .face) x 0)) (follows-face d l))
-      (λ x. a .met-at x ∙ ap (λ (ds : List ℕ). isIn x ds || getD (s .met) x false) (follows-face d l))
-      (a .size ∙ ap length (follows-face d l))
+  module _ (d : ℕ) (l : d < n) {face : List ℕ} {met : List Bool} {sizes : List ℕ} {count : ℕ} where
+    -- what labelling d's face gives
+    pub numbered-more : {face′ : List ℕ} {met′ : List Bool} {size : ℕ} → count ≤ d → getD met d false ≡ false → length face′ ≡ 256 → FaceLabelled next n d count face met face′ met′ size
+        → Numbered p d face met sizes count → Numbered p (d + 1) face′ met′ (set sizes count size) (count + 1)
+    numbered-more few e long a h =
+        numbered-new p follows-one d (omega (arith, w .many)) h e (omega arith) long
+        (λ x. a .face-at x ∙ ap (λ (ds : List ℕ). pick (isIn x ds) count (getD face x 0)) (follows-face d l))
+        (λ x. a .met-at x ∙ ap (λ (ds : List ℕ). isIn x ds || getD met x false) (follows-face d l))
+        (a .sized ∙ ap length (follows-face d l))
 
-  pub numbered-kept : (d : ℕ) → d < n → (s : Labelled) → getD (s .met) d false ≡ true → Numbered p d s → Numbered p (d + 1) s
-  numbered-kept d l s e h = numbered-same p follows-one d (omega (arith, w .many)) s h e
+    pub numbered-kept : getD met d false ≡ true → Numbered p d face met sizes count → Numbered p (d + 1) face met sizes count
+    numbered-kept e h = numbered-same p follows-one d (omega (arith, w .many)) h e
 
-  pub numbered-all : (d : ℕ) → n ≤ d → d ≤ n → (s : Labelled) → Numbered p d s → FacesLabelled p s
-  numbered-all d l k s h = numbered-done p follows-one d (omega (arith, w .many)) s h
+  pub numbered-all : (d : ℕ) → n ≤ d → d ≤ n → {face : List ℕ} {met : List Bool} {sizes : List ℕ} {count : ℕ} → Numbered p d face met sizes count → FacesLabelled p (record { face = face; sizes = sizes; faces = count })
+  numbered-all d l k h = numbered-done p follows-one d (omega (arith, w .many)) h
 
-pub numbered-none : (p : Plate) → Numbered p 0 (record { face = replicate 256 0; met = replicate 256 false; sizes = replicate 256 0; faces = 0 })
+pub numbered-none : (p : Plate) → Numbered p 0 (replicate 256 0) (replicate 256 false) (replicate 256 0) 0
 numbered-none p =
     record {
-      count = refl;
-      met = λ x l. none x (decLt x 256) ∙ sym (le-ltb (lead p x) 0 (omega arith));
-      face = record { size = length-replicate {A = ℕ} 256 0; at = λ x l. getD-replicate {A = ℕ} 256 x 0 0 l ∙ sym (by x (ltb x (darts p))) };
-      sizes = record { size = length-replicate {A = ℕ} 256 0; at = λ k l. getD-replicate {A = ℕ} 256 k 0 0 l ∙ sym (up-from 0 (λ k. length (faceOf p (getD [] k 0))) k (omega arith)) };
+      counted = refl;
+      met-at = λ x l. none x (decLt x 256) ∙ sym (le-ltb (lead p x) 0 (omega arith));
+      face-table = record { size = length-replicate {A = ℕ} 256 0; at = λ x l. getD-replicate {A = ℕ} 256 x 0 0 l ∙ sym (by x (ltb x (darts p))) };
+      size-table = record { size = length-replicate {A = ℕ} 256 0; at = λ k l. getD-replicate {A = ℕ} 256 k 0 0 l ∙ sym (up-from 0 (λ k. length (faceOf p (getD [] k 0))) k (omega arith)) };
     }
   where
     none : (x : ℕ) → Dec (x < 256) → getD (replicate 256 false) x false ≡ false
@@ -247,5 +246,5 @@ numbered-none p =
     by x true = ap (λ (u : Bool). pick u (length (facesFrom (lead p x) 0 p)) 0) (le-ltb (lead p x) 0 (omega arith))
     by x false = refl
 
-pub fitting-none : Fitting 0 (record { face = replicate 256 0; met = replicate 256 false; sizes = replicate 256 0; faces = 0 })
-fitting-none = record { face-long = length-replicate {A = ℕ} 256 0; met-long = length-replicate 256 false; few = omega arith }
+pub fitting-none : Fitting 0 (replicate 256 0) (replicate 256 false) (replicate 256 0) 0
+fitting-none = record { face-long = length-replicate {A = ℕ} 256 0; met-long = length-replicate 256 false; sizes-long = length-replicate {A = ℕ} 256 0; few = omega arith }

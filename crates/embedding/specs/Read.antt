@@ -1,6 +1,6 @@
 -- What a plate that was read holds.
 use mathlib.Core.Path.{_≡_}
-use mathlib.Core.Bool.{true, false}
+use mathlib.Core.Bool.{Bool, true, false}
 use mathlib.Core.List.{List, [], _∷_}
 use Prim.Native.Nat.{ℕ, suc, _+_, _≤_, _<_}
 use lib.Dec.{eqb, ltb}
@@ -35,21 +35,24 @@ pub record Follows (p : Plate) (n : ℕ) (next : List ℕ) : Type 0 where
   pub many : n ≡ darts p
   pub table : Table 256 (upTo (darts p) (after p)) next
 
--- the faces whose lowest dart is below d are labelled
-pub record Numbered (p : Plate) (d : ℕ) (s : Labelled) : Type 0 where
-  pub count : s .faces ≡ length (facesFrom d 0 p)
-  pub met : (x : ℕ) → x < darts p → getD (s .met) x false ≡ ltb (lead p x) d
-  pub face : Table 256 (upTo (darts p) (λ x. pick (ltb (lead p x) d) (length (facesFrom (lead p x) 0 p)) 0)) (s .face)
-  pub sizes : Table 256 (upTo (s .faces) (λ k. length (faceOf p (getD (facesFrom d 0 p) k 0)))) (s .sizes)
+-- the faces whose lowest dart is below d are labelled: each dart's face, the darts met, each face's size, how many faces
+pub record Numbered (p : Plate) (d : ℕ) (face : List ℕ) (met : List Bool) (sizes : List ℕ) (count : ℕ) : Type 0 where
+  pub counted : count ≡ length (facesFrom d 0 p)
+  pub met-at : (x : ℕ) → x < darts p → getD met x false ≡ ltb (lead p x) d
+  pub face-table : Table 256 (upTo (darts p) (λ x. pick (ltb (lead p x) d) (length (facesFrom (lead p x) 0 p)) 0)) face
+  pub size-table : Table 256 (upTo count (λ k. length (faceOf p (getD (facesFrom d 0 p) k 0)))) sizes
 
-pub record Fitting (d : ℕ) (s : Labelled) : Type 0 where
-  pub face-long : length (s .face) ≡ 256
-  pub met-long : length (s .met) ≡ 256
-  pub few : s .faces ≤ d
+-- the lists are whole, and there is a face at most for each dart below d
+pub record Fitting (d : ℕ) (face : List ℕ) (met : List Bool) (sizes : List ℕ) (count : ℕ) : Type 0 where
+  pub face-long : length face ≡ 256
+  pub met-long : length met ≡ 256
+  pub sizes-long : length sizes ≡ 256
+  pub few : count ≤ d
 
-pub record OneLabelled (n : ℕ) (next : List ℕ) (d : ℕ) (s r : Labelled) : Type 0 where
-  pub numbered : (p : Plate) → Follows p n next → Numbered p d s → Numbered p (d + 1) r
-  pub fitting : Fitting (d + 1) r
+-- the lists and the count before dart d, and after it
+pub record OneLabelled (n : ℕ) (next : List ℕ) (d : ℕ) (face : List ℕ) (met : List Bool) (sizes : List ℕ) (count : ℕ) (face′ : List ℕ) (met′ : List Bool) (sizes′ : List ℕ) (count′ : ℕ) : Type 0 where
+  pub numbered : (p : Plate) → Follows p n next → Numbered p d face met sizes count → Numbered p (d + 1) face′ met′ sizes′ count′
+  pub fitting : Fitting (d + 1) face′ met′ sizes′ count′
 
 pub record FacesLabelled (p : Plate) (s : Labelled) : Type 0 where
   pub count : s .faces ≡ length (faces p)

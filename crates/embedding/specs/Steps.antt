@@ -10,7 +10,6 @@ use Rattle.embedding.specs.Plates.{pick, isIn, plate, Plate, twin, degre
 use Rattle.embedding.specs.declared.Row.{Row}
 use Rattle.embedding.specs.declared.Gathered.{Gathered}
 use Rattle.embedding.specs.declared.Seen.{Seen}
-use Rattle.embedding.specs.declared.Label.{Label}
 
 -- the degrees of n posts, none over four
 pub record Few (n : ℕ) (e : List ℕ) (degrees : List ℕ) : Type 0 where
@@ -54,13 +53,12 @@ pub record Joined (a b : ℕ) (s r : Seen) : Type 0 where
 pub record RoundMade (e : List ℕ) (s r : Seen) : Type 0 where
   pub marks : (l : List ℕ) → Marks l s → Marks (joins e l) r
 
--- the orbit of d labelled
+-- the dart after x
 abbrev pub nextOf : List ℕ → ℕ → ℕ
 nextOf next x = getD next x 0
 
-pub record FaceLabelled (next : List ℕ) (n d number : ℕ) (face : List ℕ) (met : List Bool) (r : Label) : Type 0 where
-  pub face-long : length (r .face) ≡ 256
-  pub met-long : length (r .met) ≡ 256
-  pub face-at : (x : ℕ) → getD (r .face) x 0 ≡ pick (isIn x (orbit (nextOf next) n d)) number (getD face x 0)
-  pub met-at : (x : ℕ) → getD (r .met) x false ≡ isIn x (orbit (nextOf next) n d) || getD met x false
-  pub size : r .size ≡ length (orbit (nextOf next) n d)
+-- the orbit of d labelled: face and met before, face′ and met′ after
+pub record FaceLabelled (next : List ℕ) (n d number : ℕ) (face : List ℕ) (met : List Bool) (face′ : List ℕ) (met′ : List Bool) (size : ℕ) : Type 0 where
+  pub face-at : (x : ℕ) → getD face′ x 0 ≡ pick (isIn x (orbit (nextOf next) n d)) number (getD face x 0)
+  pub met-at : (x : ℕ) → getD met′ x false ≡ isIn x (orbit (nextOf next) n d) || getD met x false
+  pub sized : size ≡ length (orbit (nextOf next) n d)

@@ -55,19 +55,11 @@ struct Seen {
     count: usize,
 }
 
-// The faces labelled so far: the darts met, each dart's face, each face's size.
+// The faces: each dart's face, each face's size, how many.
 struct Labelled {
     face: [u8; 256],
-    met: [bool; 256],
     sizes: [u16; 256],
     faces: usize,
-}
-
-// The darts of one face labelled.
-struct Label {
-    face: [u8; 256],
-    met: [bool; 256],
-    size: u16,
 }
 
 fn wide(b: u8) -> usize
@@ -304,33 +296,27 @@ fn round(posts: usize, ends: &[u8], s: Seen) -> Seen
     r
 }
 
-// The face of dart `d` labelled.
+// The face of dart `d` labelled; its size.
 fn label_face(
     next: &[u8; 256],
     darts: usize,
-    face: [u8; 256],
-    met: [bool; 256],
+    face: &mut [u8],
+    met: &mut [bool],
     d: usize,
     number: u8,
-) -> Label
-    requires { ⌜ (darts ≤ 256) × (d < darts) × OneToOne (nextOf (now next)) darts × (length face ≡ 256) × (length met ≡ 256) ⌝ }
-    ensures { λ r. ⌜ FaceLabelled (now (next .entry)) darts d number face met r ⌝ }
+) -> u16
+    requires { ⌜ (darts ≤ 256) × (d < darts) × OneToOne (nextOf (now next)) darts × (length (now face) ≡ 256) × (length (now met) ≡ 256) ⌝ }
+    ensures { λ r. ⌜ FaceLabelled (now (next .entry)) darts d number (now (face .entry)) (now (met .entry)) (now (face .exit)) (now (met .exit)) r ⌝ }
 {
-    let mut f = face;
-    let mut m = met;
     let mut size = 0u16;
     let mut at = d;
     loop {
-        f[at] = number;
-        m[at] = true;
+        face[at] = number;
+        met[at] = true;
         size += 1;
         at = wide(next[at]);
         if at == d {
-            return Label {
-                face: f,
-                met: m,
-                size,
-            };
+            return size;
         }
     }
 }
@@ -352,28 +338,24 @@ fn reach_count(posts: usize, ends: &[u8]) -> usize
     }
 }
 
-// Dart `d`: where it has no label its face is the next.
-fn label_next(next: &[u8; 256], darts: usize, s: Labelled, d: usize) -> Labelled
-    requires { ⌜ (darts ≤ 256) × (d < darts) × OneToOne (nextOf (now next)) darts × Fitting d s ⌝ }
-    ensures { λ r. ⌜ OneLabelled darts (now (next .entry)) d s r ⌝ }
+// Dart `d`: where it has no label its face is the next; the faces so far.
+fn label_next(
+    next: &[u8; 256],
+    darts: usize,
+    face: &mut [u8],
+    met: &mut [bool],
+    sizes: &mut [u16],
+    count: usize,
+    d: usize,
+) -> usize
+    requires { ⌜ (darts ≤ 256) × (d < darts) × OneToOne (nextOf (now next)) darts × Fitting d (now face) (now met) (now sizes) count ⌝ }
+    ensures { λ r. ⌜ OneLabelled darts (now (next .entry)) d (now (face .entry)) (now (met .entry)) (now (sizes .entry)) count (now (face .exit)) (now (met .exit)) (now (sizes .exit)) r ⌝ }
 {
-    let met = s.met;
     if met[d] {
-        return s;
+        return count;
     }
-    let face = s.face;
-    let mut sizes = s.sizes;
-    let count = s.faces;
-    let l = label_face(next, darts, face, met, d, count as u8);
-    sizes[count] = l.size;
-    let f = l.face;
-    let m = l.met;
-    Labelled {
-        face: f,
-        met: m,
-        sizes,
-        faces: count + 1,
-    }
+    sizes[count] = label_face(next, darts, face, met, d, count as u8);
+    count + 1
 }
 
 // The darts in order, each face labelled from its lowest dart.
@@ -381,18 +363,20 @@ fn label_faces(next: &[u8; 256], darts: usize) -> Labelled
     requires { ⌜ (darts ≤ 256) × OneToOne (nextOf (now next)) darts ⌝ }
     ensures { λ r. ⌜ ((p : PlateOf) → Follows p darts (now (next .entry)) → FacesLabelled p r) ⌝ }
 {
-    let mut s = Labelled {
-        face: [0; 256],
-        met: [false; 256],
-        sizes: [0; 256],
-        faces: 0,
-    };
+    let mut face = [0u8; 256];
+    let mut met = [false; 256];
+    let mut sizes = [0u16; 256];
+    let mut count = 0usize;
     let mut d = 0;
     while d < darts {
-        s = label_next(next, darts, s, d);
+        count = label_next(next, darts, &mut face, &mut met, &mut sizes, count, d);
         d += 1;
     }
-    s
+    Labelled {
+        face,
+        sizes,
+        faces: count,
+    }
 }
 
 fn first_sizes(sizes: [u16; 256]) -> [u16; 66]
