@@ -102,7 +102,7 @@ module _ (r : Residual) (rest : ℕ) (left lack dist via : List ℕ) (k : Ready 
   pub price-reached : (v : ℕ) → reached dist v → getD (r .pot) v 0 ≤ costMost * 254
   price-reached v h = omega (arith, price-below (suc (getD dist v 0)) v (omega arith) h)
 
-  pub gap-most : (g : ℕ) → Gap r dist (length (r .tails)) g → 0 < g → g ≤ raiseMost
+  pub gap-most : (g : ℕ) → Gap r dist g → 0 < g → g ≤ raiseMost
   gap-most g m pos =
       let (a, arc, l) = m .met pos in
       ⊎-elim
@@ -162,10 +162,10 @@ module _ (r : Residual) (left lack dist via : List ℕ) (v : ℕ) (x : Explored 
   pub shaped-stuck : Shaped r (length dist)
   shaped-stuck = subst (Shaped r) (sym stuck-nodes) (k .shaped)
 
-  pub raise-fits : (g : ℕ) → Gap r dist (length (r .tails)) g → 0 < g → (u : ℕ) → 255 ≤ getD dist u 0 → getD (r .pot) u 0 + g < 2 ^ 64
+  pub raise-fits : (g : ℕ) → Gap r dist g → 0 < g → (u : ℕ) → 255 ≤ getD dist u 0 → getD (r .pot) u 0 + g < 2 ^ 64
   raise-fits g m pos u h = omega (arith, gap-most r rest left lack dist via k (s .rooted) g m pos, k .budget u)
 
-  module _ (g : ℕ) (m : Gap r dist (length (r .tails)) g) (pos : 0 < g) (pot′ : List ℕ) (q : Raised dist g (r .pot) pot′) where
+  module _ (g : ℕ) (m : Gap r dist g) (pos : 0 < g) (pot′ : List ℕ) (q : Raised dist g (r .pot) pot′) where
     pub shaped-raised : Shaped (repriced r pot′) (length left)
     shaped-raised = reshaped r (length left) (r .x) pot′ refl (q .long) (k .shaped .within) (k .shaped)
 
@@ -207,7 +207,7 @@ module _ (r : Residual) (left lack dist via : List ℕ) (v : ℕ) (x : Explored 
 
   -- ---- nothing can be sent
 
-  pub stalled : 0 < total left → Gap r dist (length (r .tails)) 0 → Stalled r left lack
+  pub stalled : 0 < total left → Gap r dist 0 → Stalled r left lack
   stalled some m =
       let (u, node, p) = some-left left some in
       record {

@@ -1,5 +1,5 @@
 -- Linking the arcs at each node one arc at a time, and lining up the reached nodes in a queue.
-use mathlib.Core.Path.{_≡_, refl, sym, ap, _∙_}
+use mathlib.Core.Path.{_≡_, refl, sym, ap, _∙_, subst}
 use mathlib.Core.Logic.{⊎-elim}
 use mathlib.Core.List.{List, [], _∷_}
 use Prim.Native.Nat.{ℕ, _+_, _-_, _≤_, _<_}
@@ -10,6 +10,7 @@ use borrow.Author.Count.{below-more}
 use lib.Dec.{leb}
 use lib.ListN.{length, getD, set, length-set, List·getD-eq-default}
 use lib.Seq.{getD-set-same, getD-set-other}
+use Rattle.finite.proofs.Order.{Order, less, same, more, order}
 use Rattle.finite.proofs.Sums.{sumBelow, sum-more}
 use Rattle.finite.specs.Base.{when}
 use Rattle.residual.specs.Residual.{Fresh, reached, unreached}
@@ -30,8 +31,8 @@ last-none ends lowers uppers v = record { below = omega arith; here = λ h. absu
 -- the next arc is the last one of the node that it has
 last-here : (ends lowers uppers : List ℕ) (v k : ℕ) → getD ends k 0 ≡ v → Last ends lowers uppers v (k + 1) (k + 1)
 last-here ends lowers uppers v k e =
-    let same : k + 1 - 1 ≡ k = omega arith in
-    record { below = omega arith; here = λ h. ap (λ (b : ℕ). getD ends b 0) same ∙ e; later = λ b h d m. h }
+    let last : k + 1 - 1 ≡ k = omega arith in
+    record { below = omega arith; here = λ h. ap (λ (b : ℕ). getD ends b 0) last ∙ e; later = λ b h d m. h }
 
 -- one that does not move, or is at another node, leaves it
 last-past : (ends lowers uppers : List ℕ) (v k at : ℕ) → (getD ends k 0 ≡ v → Movable lowers uppers k → ⊥) → Last ends lowers uppers v k at → Last ends lowers uppers v (k + 1) at
@@ -88,10 +89,10 @@ module _ {ends lowers uppers last before : List ℕ} {nodes k : ℕ} (c : Chaini
   }
 
   pub chaining-done : k ≡ length ends → (n : ℕ) → nodes ≡ n → Chain ends lowers uppers n last before
-  chaining-done e n same = record {
-    last-long = c .last-long ∙ same;
+  chaining-done e n all = record {
+    last-long = c .last-long ∙ all;
     before-long = c .before-long;
-    last-at = λ v h. rw (← e) (c .last-at v (omega (arith, same)));
+    last-at = λ v h. rw (← e) (c .last-at v (omega (arith, all)));
     before-at = λ a h. c .before-at a (omega (arith, e));
   }
 
@@ -102,6 +103,38 @@ module _ {ends lowers uppers caps : List ℕ} (fewer : (a : ℕ) → Movable low
 
   pub chain-fewer : {nodes : ℕ} {last before : List ℕ} → Chain ends lowers uppers nodes last before → Chain ends lowers caps nodes last before
   chain-fewer c = record { last-long = c .last-long; before-long = c .before-long; last-at = λ v h. last-fewer (c .last-at v h); before-at = λ a h. last-fewer (c .before-at a h) }
+
+-- ---- the arcs at one node, from the last down
+
+-- the arcs at u that can move, from `at` on, are so; below `at` the next is at - 1
+pub record Downward (ends lowers uppers : List ℕ) (u at : ℕ) (So : ℕ → Type 0) : Type 0 where
+  pub below : at ≤ length ends
+  pub here : 0 < at → getD ends (at - 1) 0 ≡ u
+  pub done : (a : ℕ) → a < length ends → at ≤ a → getD ends a 0 ≡ u → Movable lowers uppers a → So a
+
+module _ {ends lowers uppers last before : List ℕ} {nodes u : ℕ} (chain : Chain ends lowers uppers nodes last before) (node : u < nodes) where
+  pub down-start : (So : ℕ → Type 0) → Downward ends lowers uppers u (getD last u 0) So
+  down-start So =
+      let l = chain .last-at u node in
+      record { below = l .below; here = l .here; done = λ a h g e m. absurd (omega (arith, l .later a h e m)) }
+
+  module _ {at : ℕ} {So : ℕ → Type 0} (d : Downward ends lowers uppers u at So) (some : 0 < at) where
+    down-arc : at - 1 < length ends
+    down-arc = omega (arith, d .below)
+
+    pub down-less : getD before (at - 1) 0 < at
+    down-less = omega (arith, chain .before-at (at - 1) down-arc .below)
+
+    -- the arc before at - 1 at u is the next
+    pub down-next : (Such : ℕ → Type 0) → ((a : ℕ) → So a → Such a) → Such (at - 1) → Downward ends lowers uppers u (getD before (at - 1) 0) Such
+    down-next Such keeps here =
+        let l = chain .before-at (at - 1) down-arc in
+        record { below = omega (arith, down-less, d .below); here = λ h. l .here h ∙ d .here some; done = λ b h g e m. go b h g e m (order b (at - 1)) }
+      where
+        go : (b : ℕ) → b < length ends → getD before (at - 1) 0 ≤ b → getD ends b 0 ≡ u → Movable lowers uppers b → Order b (at - 1) → Such b
+        go b h g e m (less k) = absurd (omega (arith, chain .before-at (at - 1) down-arc .later b k (e ∙ sym (d .here some)) m))
+        go b h g e m (same q) = subst Such (sym q) here
+        go b h g e m (more k) = keeps b (d .done b h (omega arith) e m)
 
 -- ---- the queue
 

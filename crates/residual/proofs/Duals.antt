@@ -74,7 +74,7 @@ module _ (r : Residual) (dist : List ℕ) (g : ℕ) (pot′ : List ℕ) (q : Rai
   pub still-tight : (a : ℕ) → tight r a → reached dist (tailOf r a) → reached dist (headOf r a) → tight (repriced r pot′) a
   still-tight a e t h = omega (arith, same-price (tailOf r a) t, same-price (headOf r a) h)
 
-  module _ (k : Priced r) (closed : (a : ℕ) → a < length (r .tails) → ShutAt r dist a) (m : Gap r dist (length (r .tails)) g) where
+  module _ (k : Priced r) (closed : (a : ℕ) → a < length (r .tails) → ShutAt r dist a) (m : Gap r dist g) where
     -- an arc that leaves the reached nodes is short by the gap at least
     up-short : (a : ℕ) → a < length (r .tails) → canUp r a → reached dist (tailOf r a) → 255 ≤ getD dist (headOf r a) 0 → there r a + g ≤ over r a
     up-short a h room near far =
@@ -137,7 +137,7 @@ module _ (r : Residual) (from : ℕ) (start dist via : List ℕ) (s : Searched r
   again v = again-below (suc (getD dist v 0)) v (omega arith)
 
 -- With a gap above 0 it reaches more: fewer nodes are left.
-module _ (r : Residual) (start dist via : List ℕ) (s : Searched r 0 start dist via) (g : ℕ) (m : Gap r dist (length (r .tails)) g) (some : 0 < g) (pot′ : List ℕ) (q : Raised dist g (r .pot) pot′)
+module _ (r : Residual) (start dist via : List ℕ) (s : Searched r 0 start dist via) (g : ℕ) (m : Gap r dist g) (some : 0 < g) (pot′ : List ℕ) (q : Raised dist g (r .pot) pot′)
     (dist′ via′ : List ℕ) (n : Searched (repriced r pot′) 0 start dist′ via′) (ends : Shaped r (length dist)) where
   kept : (v : ℕ) → reached dist v → reached dist′ v
   kept = again r 0 start dist via s g pot′ q dist′ via′ n
@@ -161,7 +161,7 @@ module _ (r : Residual) (start dist via : List ℕ) (s : Searched r 0 start dist
       (m .met some .2)
 
 -- With no gap, no residual arc leaves the reached nodes: those out are full, those in are at their least.
-module _ (r : Residual) (dist : List ℕ) (k : Priced r) (closed : (a : ℕ) → a < length (r .tails) → ShutAt r dist a) (m : Gap r dist (length (r .tails)) 0) where
+module _ (r : Residual) (dist : List ℕ) (k : Priced r) (closed : (a : ℕ) → a < length (r .tails) → ShutAt r dist a) (m : Gap r dist 0) where
   none-out : (a s : ℕ) → a < length (r .tails) → Leaves r dist a s → s ≡ 0
   none-out a s h l = elim (decLt 0 s) [ yes pos ↦ absurd (omega (arith, m .least a s h l pos .0)) | no n ↦ omega (arith, n) ]
 

@@ -4,28 +4,21 @@ use mathlib.Core.Logic.{⊎-elim}
 use mathlib.Core.List.{List}
 use Prim.Native.Nat.{ℕ, _+_, _-_, _≤_, _<_}
 use native.Mathlib.Nat.{le-refl}
-use native.Mathlib.Decide.{ℕ-discrete}
+use native.Mathlib.Decide.{ℕ-discrete, decLt}
 use native.Mathlib.Omega.{arith}
 use borrow.Author.Count.{below-more}
 use lib.ListN.{length, getD, set, length-set}
 use lib.Seq.{getD-set-same, getD-set-other}
-use Rattle.finite.proofs.Order.{Order, less, same, more, order}
 use Rattle.residual.specs.Residual.{Residual, Within, Shaped, Opens, ShutAt, Fresh, Rooted, Searched, tailOf, headOf, reached}
 use Rattle.residual.specs.Chains.{Movable, Chain, Lined}
 use Rattle.residual.specs.Searches.{Spent, SpentAt, Done, Standing, Underway, Grown, Further, Sought}
 use Rattle.residual.proofs.Passes.{kept, mark-left, unreached-set, ranked-reach, fresh-ranked}
-use Rattle.residual.proofs.Chaining.{lined-more}
+use Rattle.residual.proofs.Chaining.{Downward, down-start, down-less, down-next, lined-more}
 
 -- ---- arcs that lead to no new node
 
 pub spent-kept : {r : Residual} {dist dist′ : List ℕ} {u a : ℕ} → ((v : ℕ) → reached dist v → reached dist′ v) → Spent r dist u a → Spent r dist′ u a
 spent-kept {r = r} {a = a} k s = record { up = λ e t c. k (headOf r a) (s .up e t c); down = λ e t c. k (tailOf r a) (s .down e t c) }
-
-spent-shut : {r : Residual} {dist : List ℕ} {u a : ℕ} → reached dist u → ShutAt r dist a → Spent r dist u a
-spent-shut {dist = dist} h s = record {
-  up = λ e t c. s .up t (subst (reached dist) (sym e) h) c;
-  down = λ e t c. s .down t (subst (reached dist) (sym e) h) c;
-}
 
 -- an arc that can not move leads nowhere
 spent-fixed : {r : Residual} {dist : List ℕ} {u a : ℕ} → Within r → a < length (r .tails) → (Movable (r .lowers) (r .uppers) a → ⊥) → Spent r dist u a
@@ -101,53 +94,28 @@ module _ {r : Residual} {from a v count : ℕ} {dist via queue : List ℕ} (late
 
 -- ---- the arcs at node u, from the last down
 
--- the arcs at u from `at` on lead to no new node; below `at` the next is at - 1
+-- those from `at` on lead to no new node
 pub record Fan (r : Residual) (from : ℕ) (ends : List ℕ) (u count₀ : ℕ) (dist₀ queue₀ : List ℕ) (at count : ℕ) (dist via queue : List ℕ) : Type 0 where
   pub further : Further r from count₀ dist₀ queue₀ count dist via queue
-  pub below : at ≤ length (r .tails)
-  pub here : 0 < at → getD ends (at - 1) 0 ≡ u
-  pub done : (a : ℕ) → from ≤ a → a < length (r .tails) → at ≤ a → getD ends a 0 ≡ u → Spent r dist u a
+  pub down : Downward ends (r .lowers) (r .uppers) u at (λ a. from ≤ a → Spent r dist u a)
 
-module _ {r : Residual} {from : ℕ} {ends : List ℕ} {nodes u : ℕ} {last before : List ℕ} (chain : Chain ends (r .lowers) (r .uppers) nodes last before) (long : length ends ≡ length (r .tails)) (within : Within r) (node : u < nodes) where
+module _ {r : Residual} {from : ℕ} {ends : List ℕ} {nodes u : ℕ} {last before : List ℕ} (chain : Chain ends (r .lowers) (r .uppers) nodes last before) (long : length ends ≡ length (r .tails)) (node : u < nodes) where
   pub fan-start : {count : ℕ} {dist via queue : List ℕ} → Underway r from count dist via queue → Fan r from ends u count dist queue (getD last u 0) count dist via queue
   fan-start {count = count} {dist = dist} {queue = queue} w =
-      let l = chain .last-at u node in
-      record {
-        further = record { underway = w; grown = grown-none count dist queue };
-        below = omega (arith, l .below);
-        here = l .here;
-        done = λ a h arc g e. spent-fixed within arc (λ m. absurd (omega (arith, l .later a (omega arith) e m)));
-      }
+      record { further = record { underway = w; grown = grown-none count dist queue }; down = down-start chain node (λ a. from ≤ a → Spent r dist u a) }
 
-  module _ {count₀ : ℕ} {dist₀ queue₀ : List ℕ} {at count : ℕ} {dist via queue : List ℕ} (f : Fan r from ends u count₀ dist₀ queue₀ at count dist via queue) (in′ : reached dist₀ u) (some : from < at) where
+  module _ {count₀ : ℕ} {dist₀ queue₀ : List ℕ} {at count : ℕ} {dist via queue : List ℕ} (f : Fan r from ends u count₀ dist₀ queue₀ at count dist via queue) (some : from < at) where
     abbrev a : ℕ
     a = at - 1
 
     pub fan-arc : a < length (r .tails)
-    fan-arc = omega (arith, f .below)
+    fan-arc = omega (arith, f .down .below)
 
-    stands : reached dist u
-    stands = grown-reached (f .further .grown) u in′
+    pub fan-less : getD before a 0 < at
+    fan-less = down-less chain node (f .down) (omega arith)
 
-    -- the arc before a at u is the next
-    next-here : 0 < getD before a 0 → getD ends (getD before a 0 - 1) 0 ≡ u
-    next-here h = chain .before-at a (omega (arith, fan-arc)) .here h ∙ f .here (omega arith)
-
-    next-done : (dist′ : List ℕ) → ((v : ℕ) → reached dist v → reached dist′ v) → Spent r dist′ u a → (b : ℕ) → from ≤ b → b < length (r .tails) → getD before a 0 ≤ b → getD ends b 0 ≡ u → Spent r dist′ u b
-    next-done dist′ k s b h arc g e = go (order b a)
-      where
-        go : Order b a → Spent r dist′ u b
-        go (less l) = spent-fixed within arc (λ m. absurd (omega (arith, chain .before-at a (omega (arith, fan-arc)) .later b l (e ∙ sym (f .here (omega arith))) m)))
-        go (same q) = subst (Spent r dist′ u) (sym q) s
-        go (more l) = spent-kept k (f .done b h arc (omega arith) e)
-
-    pub fan-over : ShutAt r dist a → Fan r from ends u count₀ dist₀ queue₀ (getD before a 0) count dist via queue
-    fan-over s = record {
-      further = f .further;
-      below = omega (arith, chain .before-at a (omega (arith, fan-arc)) .below, fan-arc);
-      here = next-here;
-      done = next-done dist (λ v h. h) (spent-shut stands s);
-    }
+    pub fan-over : Spent r dist u a → Fan r from ends u count₀ dist₀ queue₀ (getD before a 0) count dist via queue
+    fan-over s = record { further = f .further; down = down-next chain node (f .down) (omega arith) (λ a. from ≤ a → Spent r dist u a) (λ b h. h) (λ late. s) }
 
     module _ {v : ℕ} (o : Opens r dist a v) where
       pub fan-further : Further r from count₀ dist₀ queue₀ (count + 1) (set dist v count) (set via v a) (set queue count v)
@@ -160,14 +128,16 @@ module _ {r : Residual} {from : ℕ} {ends : List ℕ} {nodes u : ℕ} {last bef
       pub fan-reach : Fan r from ends u count₀ dist₀ queue₀ (getD before a 0) (count + 1) (set dist v count) (set via v a) (set queue count v)
       fan-reach = record {
         further = fan-further;
-        below = omega (arith, chain .before-at a (omega (arith, fan-arc)) .below, fan-arc);
-        here = next-here;
-        done = next-done (set dist v count) (grown-reached (reach-grown (omega arith) fan-arc o (f .further .underway)))
-            (reach-spent (omega arith) fan-arc o (f .further .underway) u);
+        down = down-next chain node (f .down) (omega arith) (λ a. from ≤ a → Spent r (set dist v count) u a)
+            (λ b h late. spent-kept (grown-reached (reach-grown (omega arith) fan-arc o (f .further .underway))) (h late))
+            (λ late. reach-spent (omega arith) fan-arc o (f .further .underway) u);
       }
 
-  pub fan-done : {count₀ : ℕ} {dist₀ queue₀ : List ℕ} {at count : ℕ} {dist via queue : List ℕ} → Fan r from ends u count₀ dist₀ queue₀ at count dist via queue → at ≤ from → SpentAt r from ends dist u
-  fan-done f h a late arc e = f .done a late arc (omega arith) e
+  pub fan-done : {count₀ : ℕ} {dist₀ queue₀ : List ℕ} {at count : ℕ} {dist via queue : List ℕ} → Within r → Fan r from ends u count₀ dist₀ queue₀ at count dist via queue → at ≤ from → SpentAt r from ends dist u
+  fan-done within f h a late arc e = elim (decLt (getD (r .lowers) a 0) (getD (r .uppers) a 0)) [
+    | yes m ↦ f .down .done a (omega arith) (omega arith) e m late
+    | no n ↦ spent-fixed within arc n
+  ]
 
 -- the node that the queue got last is the one that was reached last
 pub newest : (queue : List ℕ) (count v : ℕ) → count < length queue → getD (set queue count v) (count + 1 - 1) 0 ≡ v

@@ -6,12 +6,15 @@ use Prim.Native.Nat.{ℕ, zero, suc, _≤_, _<_}
 use native.Mathlib.Nat.{le-of-suc-le-suc, not-suc-le-zero}
 use native.Mathlib.Decide.{ℕ-discrete, decLt}
 use native.Mathlib.Omega.{arith}
-use lib.ListN.{length, getD, set, List·getD-eq-default}
+use borrow.Author.Tests.{le-leb}
+use lib.ListN.{length, getD, set, length-set, List·getD-eq-default}
 use lib.Seq.{getD-set-same, getD-set-other}
 use Rattle.finite.specs.Base.{total}
-use Rattle.residual.specs.Residual.{Residual, Fresh, reached}
+use Rattle.residual.specs.Residual.{Residual, Fresh, reached, unreached}
+use Rattle.residual.specs.Chains.{Lined}
 use Rattle.residual.specs.Searches.{Sought}
 use Rattle.residual.specs.Marks.{markOf, marksOf, Zeros, Single, Wants}
+use Rattle.residual.proofs.Chaining.{lined-more}
 use Rattle.residual.proofs.Duals.{unreached-source}
 
 pub marks-long : (left : List ℕ) → length (marksOf left) ≡ length left
@@ -73,6 +76,28 @@ single-fresh dist s l few one = record {
   some = unreached-source dist s l (omega (arith, one .marked));
   few = few;
 }
+
+-- among nodes that are not reached one is marked as the source, and alone in the queue
+unreached-all : (dist : List ℕ) → ((v : ℕ) → v < length dist → getD dist v 0 ≡ 255) → unreached dist ≡ length dist
+unreached-all [] all = refl
+unreached-all (d ∷ dist) all = rw (le-leb 255 d (omega (arith, all 0 (omega arith)))) (omega (arith, unreached-all dist (λ v h. all (suc v) (omega arith))))
+
+module _ (dist : List ℕ) (s : ℕ) (l : s < length dist) (all : (v : ℕ) → v < length dist → getD dist v 0 ≡ 255) where
+  pub only-single : Single (set dist s 0) s
+  only-single = record {
+    marked = getD-set-same dist s 0 0 l;
+    others = λ v h n. getD-set-other dist s v 0 0 n ∙ all v (omega (arith, length-set dist s 0));
+  }
+
+  pub only-lined : (queue : List ℕ) → length queue ≡ length dist → Lined (set dist s 0) 1 (set queue 0 s)
+  only-lined queue q = lined-more dist queue 0 s 0 none l (omega (arith, all s l)) (omega arith) (omega arith)
+    where
+      none : Lined dist 0 queue
+      none = record {
+        count-is = omega (arith, unreached-all dist all);
+        nodes = λ i h. absurd (omega arith);
+        places = λ u h r. absurd (omega (arith, all u h));
+      }
 
 -- among zeros the one node with a 1 is wanted
 pub wants-set : {n : ℕ} {xs : List ℕ} (target : ℕ) → Zeros n xs → target < n → Wants (set xs target 1) target

@@ -7,7 +7,7 @@ use Prim.Native.Nat.{ℕ, _+_, _-_, _^_, _≤_, _<_}
 use lib.Dec.{leb}
 use lib.ListN.{length, getD}
 use Rattle.finite.specs.Base.{when}
-use Rattle.residual.specs.Residual.{Residual, tailOf, headOf, canUp, canDown, UpBy, DownBy}
+use Rattle.residual.specs.Residual.{Residual, tailOf, headOf, nearEnds, canUp, canDown, UpBy, DownBy}
 
 -- a unit's price at the end of arc a, by way of a, and as it stands
 abbrev pub over : Residual → ℕ → ℕ
@@ -28,10 +28,14 @@ Sums r = (a : ℕ) → a < length (r .tails) → over r a < 2 ^ 64
 abbrev pub Leaves : Residual → List ℕ → ℕ → ℕ → Type 0
 Leaves r dist a s = (UpBy r dist a (tailOf r a) (headOf r a) × (over r a ≡ there r a + s)) ⊎ (DownBy r dist a (tailOf r a) (headOf r a) × (there r a ≡ over r a + s))
 
-abbrev pub short : Bool → Bool → ℕ → ℕ → ℕ
-short true down over there = over - there
-short false true over there = there - over
-short false false over there = 0
+-- what a step on, or back, adds to a potential; how short of nothing its cost is
+abbrev pub Fits : Bool → ℕ → ℕ → ℕ → Type 0
+Fits true cost near far = cost + near < 2 ^ 64
+Fits false cost near far = cost + far < 2 ^ 64
+
+abbrev pub short : Bool → ℕ → ℕ → ℕ → ℕ
+short true cost near far = cost + near - far
+short false cost near far = near - (cost + far)
 
 -- s is what arc a is short of tight where it leaves the reached nodes, and 0 elsewhere
 pub record Slack (r : Residual) (dist : List ℕ) (a s : ℕ) : Type 0 where
@@ -44,10 +48,23 @@ pub record Lesser (m n r : ℕ) : Type 0 where
   pub first : 0 < m → (0 < r) × (r ≤ m)
   pub second : 0 < n → (0 < r) × (r ≤ n)
 
--- g is the least by which an arc below upto that leaves the reached nodes is short of tight, and 0 where none is
-pub record Gap (r : Residual) (dist : List ℕ) (upto g : ℕ) : Type 0 where
-  pub least : (a s : ℕ) → a < upto → Leaves r dist a s → 0 < s → (0 < g) × (g ≤ s)
-  pub met : 0 < g → (a : ℕ) × (a < upto) × Leaves r dist a g
+-- so does an arc at which a step on, or back, from u begins; and one that a step from u leads along
+abbrev pub LeavesBy : Residual → List ℕ → Bool → ℕ → ℕ → ℕ → Type 0
+LeavesBy r dist on u a s = (getD (nearEnds on r) a 0 ≡ u) × Leaves r dist a s
+
+abbrev pub LeavesFrom : Residual → List ℕ → ℕ → ℕ → ℕ → Type 0
+LeavesFrom r dist u a s = ((tailOf r a ≡ u) × UpBy r dist a (tailOf r a) (headOf r a) × (over r a ≡ there r a + s)) ⊎ ((headOf r a ≡ u) × DownBy r dist a (tailOf r a) (headOf r a) × (there r a ≡ over r a + s))
+
+-- g is the lesser of g₀ and of what the arcs that are so are short of tight; 0 is none
+pub record Closest (r : Residual) (dist : List ℕ) (So : ℕ → ℕ → Type 0) (g₀ g : ℕ) : Type 0 where
+  pub least : (a s : ℕ) → a < length (r .tails) → So a s → 0 < s → (0 < g) × (g ≤ s)
+  pub kept : 0 < g₀ → (0 < g) × (g ≤ g₀)
+  pub met : 0 < g → (g ≡ g₀) ⊎ ((a : ℕ) × (a < length (r .tails)) × Leaves r dist a g)
+
+-- g is the least by which an arc that leaves the reached nodes is short of tight, and 0 where none is
+pub record Gap (r : Residual) (dist : List ℕ) (g : ℕ) : Type 0 where
+  pub least : (a s : ℕ) → a < length (r .tails) → Leaves r dist a s → 0 < s → (0 < g) × (g ≤ s)
+  pub met : 0 < g → (a : ℕ) × (a < length (r .tails)) × Leaves r dist a g
 
 -- each node below upto that is not reached costs so much more
 pub record RaisedTo (dist : List ℕ) (by : ℕ) (pot : List ℕ) (upto : ℕ) (pot′ : List ℕ) : Type 0 where

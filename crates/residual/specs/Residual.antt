@@ -74,20 +74,39 @@ abbrev pub unreached : List ℕ → ℕ
 unreached [] = 0
 unreached (d ∷ ds) = when (leb 255 d) 1 + unreached ds
 
--- marks of nodes that are both reached, or neither
-pub record Alike (m n : ℕ) : Type 0 where
-  pub on : m < 255 → n < 255
-  pub back : n < 255 → m < 255
+-- a step on from an arc's tail, or back from its head: where it begins and where it leads
+abbrev pub nearEnds : Bool → Residual → List ℕ
+nearEnds true r = r .tails
+nearEnds false r = r .heads
 
--- room for a step on from a tail with this mark, or, where the tail is not reached, back to it
-pub record Roomy (mark units lower upper : ℕ) : Type 0 where
-  pub on : mark < 255 → units < upper
-  pub back : 255 ≤ mark → lower < units
+abbrev pub farEnd : Bool → List ℕ → List ℕ → ℕ → ℕ
+farEnd true tails heads a = getD heads a 0
+farEnd false tails heads a = getD tails a 0
 
--- the end that such a step leads to
-pub record Far (mark tail head v : ℕ) : Type 0 where
-  pub on : mark < 255 → v ≡ head
-  pub back : 255 ≤ mark → v ≡ tail
+-- the room for it between an arc's bounds
+abbrev pub Roomy : Bool → ℕ → ℕ → ℕ → Type 0
+Roomy true units lower upper = units < upper
+Roomy false units lower upper = lower < units
+
+abbrev pub Room : Bool → Residual → ℕ → Type 0
+Room on r a = Roomy on (getD (r .x) a 0) (getD (r .lowers) a 0) (getD (r .uppers) a 0)
+
+-- it costs nothing under the potentials of the node that it begins at and of the one that it leads to
+abbrev pub Even : Bool → ℕ → ℕ → ℕ → Type 0
+Even true cost near far = cost + near ≡ far
+Even false cost near far = cost + far ≡ near
+
+-- v is where a step along arc a leads; it is new, and there is room
+pub record OpenAt (r : Residual) (dist : List ℕ) (on : Bool) (a v : ℕ) : Type 0 where
+  pub at : v ≡ farEnd on (r .tails) (r .heads) a
+  pub node : v < length dist
+  pub new : 255 ≤ getD dist v 0
+  pub room : Room on r a
+
+-- where a step along arc a leads if that is new and there is room: v, or from 255 on no node
+pub record Open (r : Residual) (dist : List ℕ) (on : Bool) (a v : ℕ) : Type 0 where
+  pub none : 255 ≤ v → Room on r a → reached dist (farEnd on (r .tails) (r .heads) a)
+  pub some : v < 255 → OpenAt r dist on a v
 
 -- a step from a reached node to one that is not, over what is left between two bounds
 pub record Ahead (near far low high : ℕ) : Type 0 where
@@ -128,11 +147,6 @@ pub record Opens (r : Residual) (dist : List ℕ) (a v : ℕ) : Type 0 where
 pub record ShutAt (r : Residual) (dist : List ℕ) (a : ℕ) : Type 0 where
   pub up : tight r a → reached dist (tailOf r a) → canUp r a → reached dist (headOf r a)
   pub down : tight r a → reached dist (headOf r a) → canDown r a → reached dist (tailOf r a)
-
--- what arc a reaches: a new node v, or from 255 on none
-pub record Reach (r : Residual) (dist : List ℕ) (a v : ℕ) : Type 0 where
-  pub none : 255 ≤ v → ShutAt r dist a
-  pub some : v < 255 → Opens r dist a v
 
 -- a tree whose marks are below rank, with a mark left for every node to come
 pub record Ranked (r : Residual) (from rank : ℕ) (dist via : List ℕ) : Type 0 where

@@ -3,13 +3,18 @@ use mathlib.Core.Path.{_≡_}
 use mathlib.Core.List.{List}
 use Prim.Native.Nat.{ℕ, _≤_, _<_}
 use lib.ListN.{length, getD}
-use Rattle.residual.specs.Residual.{Residual, Ranked, Rooted, ShutAt, Pushed, tailOf, headOf, tight, canUp, canDown, reached}
+use Rattle.residual.specs.Residual.{Residual, Opens, Ranked, Rooted, ShutAt, Pushed, tailOf, headOf, tight, canUp, canDown, reached}
 use Rattle.residual.specs.Chains.{Lined}
 
 -- from node u arc a leads to no new node
 pub record Spent (r : Residual) (dist : List ℕ) (u a : ℕ) : Type 0 where
   pub up : tailOf r a ≡ u → tight r a → canUp r a → reached dist (headOf r a)
   pub down : headOf r a ≡ u → tight r a → canDown r a → reached dist (tailOf r a)
+
+-- what a step from u along arc a reaches: a new node v, or from 255 on none
+pub record Reach (r : Residual) (dist : List ℕ) (u a v : ℕ) : Type 0 where
+  pub none : 255 ≤ v → Spent r dist u a
+  pub some : v < 255 → Opens r dist a v
 
 -- so for each arc from `from` on whose end in `ends` is u; so for every arc from `from` on
 abbrev pub SpentAt : Residual → ℕ → List ℕ → List ℕ → ℕ → Type 0

@@ -2,7 +2,7 @@
 ghost use mathlib.Core.Path.{_≡_};
 ghost use Prim.Native.Nat.{ℕ, _+_, _<_};
 ghost use lib.ListN.{length, getD};
-ghost use Rattle.residual.specs.Residual.{Tells, Alike, Ahead};
+ghost use Rattle.residual.specs.Residual.{Tells, Even, Roomy, farEnd, residual, Shaped, Open};
 
 // The mark of a node that no source leads to.
 pub const UNREACHED: u8 = 255;
@@ -22,33 +22,27 @@ pub fn is_tight(cost: u64, low: u64, high: u64) -> bool
     true
 }
 
-// Whether two nodes with these marks are both reached, or neither.
-pub fn is_alike(m: u8, n: u8) -> bool
-    ensures { λ r. ⌜ Tells r (Alike m n) ⌝ }
+// Whether an arc of this cost is tight, for a step on, or back, between the potentials of the nodes near and far.
+pub fn is_even(on: bool, cost: u64, near: u64, far: u64) -> bool
+    ensures { λ r. ⌜ Tells r (Even on cost near far) ⌝ }
 {
-    if m == UNREACHED {
-        if n == UNREACHED {
-            return true;
-        }
-        return false;
+    if on {
+        return is_tight(cost, near, far);
     }
-    if n == UNREACHED {
-        return false;
-    }
-    true
+    is_tight(cost, far, near)
 }
 
-// Whether a step leads from a reached node to a new one, with room between two bounds.
-pub fn is_ahead(near: u8, far: u8, low: u16, high: u16) -> bool
-    ensures { λ r. ⌜ Tells r (Ahead near far low high) ⌝ }
+// Whether there is room between an arc's bounds for a step on, or back.
+fn has_room(on: bool, units: u16, lower: u16, upper: u16) -> bool
+    ensures { λ r. ⌜ Tells r (Roomy on units lower upper) ⌝ }
 {
-    if near == UNREACHED {
-        return false;
+    if on {
+        if upper <= units {
+            return false;
+        }
+        return true;
     }
-    if far < UNREACHED {
-        return false;
-    }
-    if high <= low {
+    if units <= lower {
         return false;
     }
     true
@@ -61,4 +55,45 @@ pub fn end_of(ends: &[u8], nodes: usize, a: usize) -> usize
     ensures { λ r. ⌜ (r ≡ getD (now (ends .entry)) a 0) × (r < nodes) ⌝ }
 {
     ends[a] as usize
+}
+
+// Where a step on, or back, along arc a leads.
+fn far_end(tails: &[u8], heads: &[u8], nodes: usize, on: bool, a: usize) -> usize
+    requires { ⌜ a < length (now tails) ⌝ }
+    requires { ⌜ length (now heads) ≡ length (now tails) ⌝ }
+    requires { ⌜ ((k : ℕ) → k < length (now tails) → getD (now tails) k 0 < nodes) ⌝ }
+    requires { ⌜ ((k : ℕ) → k < length (now tails) → getD (now heads) k 0 < nodes) ⌝ }
+    ensures { λ r. ⌜ (r ≡ farEnd on (now (tails .entry)) (now (heads .entry)) a) × (r < nodes) ⌝ }
+{
+    if on {
+        return end_of(heads, nodes, a);
+    }
+    end_of(tails, nodes, a)
+}
+
+// Where a step on, or back, along arc a leads, if that node is new and there is room, or NO_NODE.
+pub fn open_end(
+    tails: &[u8],
+    heads: &[u8],
+    lowers: &[u16],
+    uppers: &[u16],
+    costs: &[u64],
+    x: &[u16],
+    pot: &[u64],
+    dist: &[u8],
+    on: bool,
+    a: usize,
+) -> usize
+    requires { ⌜ Shaped (residual (now tails) (now heads) (now lowers) (now uppers) (now costs) (now x) (now pot)) (length (now dist)) ⌝ }
+    requires { ⌜ a < length (now tails) ⌝ }
+    ensures { λ r. ⌜ Open (residual (now (tails .entry)) (now (heads .entry)) (now (lowers .entry)) (now (uppers .entry)) (now (costs .entry)) (now (x .entry)) (now (pot .entry))) (now (dist .entry)) on a r ⌝ }
+{
+    let v = far_end(tails, heads, dist.len(), on, a);
+    if dist[v] < UNREACHED {
+        return NO_NODE;
+    }
+    if !has_room(on, x[a], lowers[a], uppers[a]) {
+        return NO_NODE;
+    }
+    v
 }

@@ -1,7 +1,8 @@
 //! The marks of the sources before a search, and the nodes that it is for.
 ghost use mathlib.Core.Path.{_≡_};
-ghost use Prim.Native.Nat.{_<_};
+ghost use Prim.Native.Nat.{_≤_, _<_};
 ghost use lib.ListN.{length};
+ghost use Rattle.residual.specs.Chains.{Lined};
 ghost use Rattle.residual.specs.Marks.{markOf, marksOf, Single, Wants};
 use crate::arcs::UNREACHED;
 use crate::chains::clear;
@@ -28,10 +29,13 @@ pub fn mark_sources(left: &[u16], dist: &mut [u8])
     }
 }
 
-// Marks one node as the source, and no other.
-pub fn mark_only(source: usize, dist: &mut [u8])
+// Marks one node as the source, and no other, and puts it into the queue.
+pub fn mark_only(source: usize, dist: &mut [u8], queue: &mut [u8])
     requires { ⌜ source < length (now dist) ⌝ }
+    requires { ⌜ length (now dist) ≤ 255 ⌝ }
+    requires { ⌜ length (now queue) ≡ length (now dist) ⌝ }
     ensures { λ r. ⌜ Single (now (dist .exit)) source ⌝ }
+    ensures { λ r. ⌜ Lined (now (dist .exit)) 1 (now (queue .exit)) ⌝ }
 {
     let mut v = 0;
     while v < dist.len() {
@@ -39,6 +43,7 @@ pub fn mark_only(source: usize, dist: &mut [u8])
         v += 1;
     }
     dist[source] = 0;
+    queue[0] = source as u8;
 }
 
 // Wants one node, and no other.

@@ -4,7 +4,7 @@ ghost use mathlib.Core.Logic.{_⊎_};
 ghost use Prim.Native.Nat.{_<_};
 ghost use lib.ListN.{length, getD};
 ghost use Rattle.residual.specs.Residual.{reached, Walkable, Up, Down, Walked, residual, Shaped, Fresh};
-ghost use Rattle.residual.specs.Chains.{Workspace};
+ghost use Rattle.residual.specs.Chains.{Lined, Workspace};
 ghost use Rattle.residual.specs.Searches.{Augmented};
 use crate::arcs::NO_NODE;
 use crate::marks::want_only;
@@ -51,7 +51,7 @@ pub fn push(
     v
 }
 
-// Searches from the sources for the target and moves a unit to it; the source that it comes from, or NO_NODE if the target is not reached.
+// Searches from the source, which stands in the queue, for the target and moves a unit to it; the source, or NO_NODE if the target is not reached.
 pub fn augment(
     tails: &[u8],
     heads: &[u8],
@@ -75,6 +75,7 @@ pub fn augment(
     requires { ⌜ Workspace (now tails) (now heads) (now lowers) (now uppers) (length (now dist)) (now dist) (now via) (now queue) (now outs) (now outlinks) (now ins) (now inlinks) ⌝ }
     requires { ⌜ length (now wanted) ≡ length (now dist) ⌝ }
     requires { ⌜ Fresh (now dist) ⌝ }
+    requires { ⌜ Lined (now dist) 1 (now queue) ⌝ }
     requires { ⌜ target < length (now dist) ⌝ }
     ensures { λ r. ⌜ Augmented (residual (now (tails .entry)) (now (heads .entry)) (now (lowers .entry)) (now (uppers .entry)) (now (costs .entry)) (now (x .entry)) (now (pot .entry))) from (now (dist .entry)) target (now (x .exit)) (now (dist .exit)) (now (via .exit)) r ⌝ }
 {
@@ -96,6 +97,7 @@ pub fn augment(
         outlinks,
         ins,
         inlinks,
+        1,
     );
     if found >= NO_NODE {
         return NO_NODE;

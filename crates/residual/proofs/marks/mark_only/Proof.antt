@@ -4,15 +4,17 @@ use Prim.Native.Nat.{ℕ, _-_, _≤_, _<_}
 use native.Mathlib.Omega.{arith}
 use lib.ListN.{length, getD, length-set}
 use lib.Seq.{getD-set-same, getD-set-other}
+use denote.Ref.{now}
 use Rattle.residual.proofs.Fills.{filled-more}
+use Rattle.residual.proofs.Sources.{only-single, only-lined}
 use Rattle.residual.proofs.marks.mark_only.Statement.{statement}
 use Rattle.residual.proofs.marks.mark_only.Tie as tie
 
 abbrev Inv-loop : tie.InvT-loop
-Inv-loop source dist₀ v₀ dist v = (length dist ≡ length dist₀) × ((u : ℕ) → u < v → getD dist u 0 ≡ 255) × (v ≤ length dist)
+Inv-loop source dist₀ queue v₀ dist v = (length dist ≡ length dist₀) × ((u : ℕ) → u < v → getD dist u 0 ≡ 255) × (v ≤ length dist)
 
 abbrev μ-loop : tie.MeasureT-loop
-μ-loop source dist₀ v₀ dist v = length dist - v
+μ-loop source dist₀ queue v₀ dist v = length dist - v
 
 loop-holds : tie.Need-loop-holds Inv-loop μ-loop
 loop-holds c = (refl, (λ u h. absurd (omega arith)), omega arith)
@@ -35,20 +37,27 @@ loop-again c =
     )
 
 slice-write-dist-2 : tie.Need-slice-write-dist-2 Inv-loop μ-loop
-slice-write-dist-2 c = omega (arith, c .before .loop .inv .0, c .before .before .pre)
+slice-write-dist-2 c = omega (arith, c .before .loop .inv .0, c .before .before .pre .0)
+
+cast-queue : tie.Need-cast-queue Inv-loop μ-loop
+cast-queue c = omega (arith, c .before .before .pre)
+
+slice-write-queue : tie.Need-slice-write-queue Inv-loop μ-loop
+slice-write-queue c = omega (arith, c .before .before .pre)
 
 same-length : tie.Need-same-length Inv-loop μ-loop
 same-length c = length-set (c .before .loop .dist) (c .before .before .args .source) 0 ∙ c .before .loop .inv .0
+
+same-length-2 : tie.Need-same-length-2 Inv-loop μ-loop
+same-length-2 c = length-set (now (c .before .before .args .queue)) 0 (c .before .before .args .source)
 
 returns : tie.Need-returns Inv-loop μ-loop
 returns c =
     let l = c .before .loop in
     let s = c .before .before in
-    record {
-      marked = getD-set-same (l .dist) (s .args .source) 0 0 (omega (arith, l .inv .0, s .pre));
-      others = λ v h n.
-          getD-set-other (l .dist) (s .args .source) v 0 0 n ∙ l .inv .1 v (omega (arith, length-set (l .dist) (s .args .source) 0, c .loop-test .left));
-    }
+    let node : s .args .source < length (l .dist) = omega (arith, l .inv .0, s .pre .0) in
+    let all : (v : ℕ) → v < length (l .dist) → getD (l .dist) v 0 ≡ 255 = λ v h. l .inv .1 v (omega (arith, c .loop-test .left)) in
+    (only-single (l .dist) (s .args .source) node all, only-lined (l .dist) (s .args .source) node all (now (s .args .queue)) (omega (arith, l .inv .0, s .pre)))
 
 pub mark-only-spec : {M : Type 1} → statement M
 mark-only-spec =
@@ -62,5 +71,8 @@ mark-only-spec =
     loop-less
     loop-again
     slice-write-dist-2
+    cast-queue
+    slice-write-queue
     same-length
+    same-length-2
     returns)

@@ -6,10 +6,10 @@ use Rattle.residual.proofs.prices.lesser.Statement.{statement}
 use Rattle.residual.proofs.prices.lesser.Tie as tie
 
 returns : tie.Need-returns
-returns c = record { one = inr refl; first = omega arith; second = omega arith }
+returns c = record { one = inl refl; first = omega arith; second = omega arith }
 
 returns-2 : tie.Need-returns-2
-returns-2 c = record { one = inl refl; first = omega arith; second = omega arith }
+returns-2 c = record { one = inr refl; first = omega arith; second = omega arith }
 
 returns-3 : tie.Need-returns-3
 returns-3 c = record { one = inl refl; first = omega arith; second = omega arith }

@@ -52,7 +52,7 @@ want-only-requires c κs = search needs
 search-requires : tie.Need-search-requires
 search-requires c κs =
     let s = c .before .before .before .before .before .before .before .before .before .before .before .before .before .before .before .before .before .before .before .before .before .before .before .before in
-    (s .pre .0, (s .pre .1 .0, (c .before .before .before .before .before .before .before .want-only .kept .1 .0 ∙ s .pre .1 .1 .0, s .pre .1 .1 .1 .0)))
+    (s .pre .0, (s .pre .1 .0, (c .before .before .before .before .before .before .before .want-only .kept .1 .0 ∙ s .pre .1 .1 .0, (s .pre .1 .1 .1 .0, s .pre .1 .1 .1 .1 .0))))
 
 same-length : tie.Need-same-length
 same-length c = search needs

@@ -5,55 +5,60 @@ use Prim.Native.Nat.{ℕ, _+_, _-_, _<_}
 use native.Mathlib.Omega.{arith}
 use denote.Ref.{now}
 use lib.ListN.{length, getD, set}
-use Rattle.residual.specs.Residual.{Residual, residual, Shaped, Opens, ShutAt}
-use Rattle.residual.specs.Searches.{Further}
-use Rattle.residual.proofs.Queues.{Fan, fan-start, fan-arc, fan-over, fan-reach, fan-further, fan-done, reach-mark, reach-place, newest}
+use Rattle.residual.specs.Residual.{Residual, residual, nearEnds, Shaped, Opens}
+use Rattle.residual.specs.Searches.{Spent, Further}
+use Rattle.residual.proofs.Steps.{near-long}
+use Rattle.residual.proofs.Queues.{Fan, fan-start, fan-arc, fan-less, fan-over, fan-reach, fan-further, fan-done, reach-mark, reach-place, newest, standing-on}
 use borrow.Author.Needs.{needs}
 use Rattle.residual.proofs.search.fan.Statement.{statement}
 use Rattle.residual.proofs.search.fan.Tie as tie
 
 abbrev Inv-loop : tie.InvT-loop
-Inv-loop tails heads lowers uppers costs x pot from dist₀ via₀ queue₀ wanted ends last before u count next₀ at₀ dist via queue next at = Fan (residual tails heads lowers uppers costs x pot) from ends u count dist₀ queue₀ at next dist via queue
+Inv-loop tails heads lowers uppers costs x pot from dist₀ via₀ queue₀ wanted on last before u count next₀ at₀ dist via queue next at =
+    (let r = residual tails heads lowers uppers costs x pot in Fan r from (nearEnds on r) u count dist₀ queue₀ at next dist via queue)
 
 abbrev μ-loop : tie.MeasureT-loop
-μ-loop tails heads lowers uppers costs x pot from dist₀ via₀ queue₀ wanted ends last before u count next₀ at₀ dist via queue next at = at
+μ-loop tails heads lowers uppers costs x pot from dist₀ via₀ queue₀ wanted on last before u count next₀ at₀ dist via queue next at = at
 
 abbrev net : tie.Start Inv-loop μ-loop → Residual
 net s = residual (now (s .args .tails)) (now (s .args .heads)) (now (s .args .lowers)) (now (s .args .uppers)) (now (s .args .costs)) (now (s .args .x)) (now (s .args .pot))
 
 abbrev start : tie.At-loop Inv-loop μ-loop → tie.Start Inv-loop μ-loop
-start l = l .before .before .before .before .before .before .before .before .before .before .before .before .before .before .before .before
+start l = l .before .before .before .before .before .before .before .before .before .before .before .before .before .before .before
 
 -- where the loop stands
 module _ (l : tie.At-loop Inv-loop μ-loop) where
   abbrev s : tie.Start Inv-loop μ-loop
   s = start l
 
-  abbrev f : Fan (net s) (s .args .from) (now (s .args .ends)) (s .args .u) (s .args .count) (now (s .args .dist)) (now (s .args .queue)) (l .loop .at) (l .loop .next) (l .loop .dist) (l .loop .via) (l .loop .queue)
+  abbrev f : Fan (net s) (s .args .from) (nearEnds (s .args .on) (net s)) (s .args .u) (s .args .count) (now (s .args .dist)) (now (s .args .queue)) (l .loop .at) (l .loop .next) (l .loop .dist) (l .loop .via) (l .loop .queue)
   f = l .loop .inv
 
   shaped : Shaped (net s) (length (l .loop .dist))
   shaped = subst (Shaped (net s)) (sym (f .further .grown .long)) (s .pre .0)
 
+  near : length (nearEnds (s .args .on) (net s)) ≡ length (now (s .args .tails))
+  near = near-long (s .args .on) (s .pre .0)
+
   before-long : length (now (s .args .before)) ≡ length (now (s .args .tails))
-  before-long = s .pre .1 .1 .0 .before-long ∙ s .pre .1 .1 .1 .0
+  before-long = s .pre .1 .1 .0 .before-long ∙ near
 
   dist-kept : length (l .loop .dist) ≡ length (now (s .args .dist))
   dist-kept = f .further .grown .long
 
   via-kept : length (l .loop .via) ≡ length (now (s .args .via))
-  via-kept = f .further .underway .via-long ∙ dist-kept ∙ sym (s .pre .1 .1 .1 .1 .1 .via-long)
+  via-kept = f .further .underway .via-long ∙ dist-kept ∙ sym (s .pre .1 .1 .1 .1 .via-long)
 
   queue-kept : length (l .loop .queue) ≡ length (now (s .args .queue))
-  queue-kept = f .further .underway .queue-long ∙ dist-kept ∙ sym (s .pre .1 .1 .1 .1 .1 .queue-long)
+  queue-kept = f .further .underway .queue-long ∙ dist-kept ∙ sym (s .pre .1 .1 .1 .1 .queue-long)
 
   -- a turn, at the arc before `at`
   module _ (some : s .args .from < l .loop .at) where
     arc : l .loop .at - 1 < length (now (s .args .tails))
-    arc = fan-arc (s .pre .1 .1 .0) (s .pre .1 .1 .1 .0) (s .pre .0 .within) (s .pre .1 .1 .1 .1 .0 .node) f (s .pre .1 .1 .1 .1 .0 .marked) some
+    arc = fan-arc (s .pre .1 .1 .0) near (s .pre .1 .1 .1 .0 .node) f some
 
-    over : ShutAt (net s) (l .loop .dist) (l .loop .at - 1) → Fan (net s) (s .args .from) (now (s .args .ends)) (s .args .u) (s .args .count) (now (s .args .dist)) (now (s .args .queue)) (getD (now (s .args .before)) (l .loop .at - 1) 0) (l .loop .next) (l .loop .dist) (l .loop .via) (l .loop .queue)
-    over = fan-over (s .pre .1 .1 .0) (s .pre .1 .1 .1 .0) (s .pre .0 .within) (s .pre .1 .1 .1 .1 .0 .node) f (s .pre .1 .1 .1 .1 .0 .marked) some
+    over : Spent (net s) (l .loop .dist) (s .args .u) (l .loop .at - 1) → Fan (net s) (s .args .from) (nearEnds (s .args .on) (net s)) (s .args .u) (s .args .count) (now (s .args .dist)) (now (s .args .queue)) (getD (now (s .args .before)) (l .loop .at - 1) 0) (l .loop .next) (l .loop .dist) (l .loop .via) (l .loop .queue)
+    over = fan-over (s .pre .1 .1 .0) near (s .pre .1 .1 .1 .0 .node) f some
 
     module _ (v : ℕ) (o : Opens (net s) (l .loop .dist) (l .loop .at - 1) v) where
       mark : l .loop .next < 255
@@ -63,10 +68,10 @@ module _ (l : tie.At-loop Inv-loop μ-loop) where
       place = reach-place (omega arith) arc o (f .further .underway)
 
       further : Further (net s) (s .args .from) (s .args .count) (now (s .args .dist)) (now (s .args .queue)) (l .loop .next + 1) (set (l .loop .dist) v (l .loop .next)) (set (l .loop .via) v (l .loop .at - 1)) (set (l .loop .queue) (l .loop .next) v)
-      further = fan-further (s .pre .1 .1 .0) (s .pre .1 .1 .1 .0) (s .pre .0 .within) (s .pre .1 .1 .1 .1 .0 .node) f (s .pre .1 .1 .1 .1 .0 .marked) some o
+      further = fan-further (s .pre .1 .1 .0) near (s .pre .1 .1 .1 .0 .node) f some o
 
-      went : Fan (net s) (s .args .from) (now (s .args .ends)) (s .args .u) (s .args .count) (now (s .args .dist)) (now (s .args .queue)) (getD (now (s .args .before)) (l .loop .at - 1) 0) (l .loop .next + 1) (set (l .loop .dist) v (l .loop .next)) (set (l .loop .via) v (l .loop .at - 1)) (set (l .loop .queue) (l .loop .next) v)
-      went = fan-reach (s .pre .1 .1 .0) (s .pre .1 .1 .1 .0) (s .pre .0 .within) (s .pre .1 .1 .1 .1 .0 .node) f (s .pre .1 .1 .1 .1 .0 .marked) some o
+      went : Fan (net s) (s .args .from) (nearEnds (s .args .on) (net s)) (s .args .u) (s .args .count) (now (s .args .dist)) (now (s .args .queue)) (getD (now (s .args .before)) (l .loop .at - 1) 0) (l .loop .next + 1) (set (l .loop .dist) v (l .loop .next)) (set (l .loop .via) v (l .loop .at - 1)) (set (l .loop .queue) (l .loop .next) v)
+      went = fan-reach (s .pre .1 .1 .0) near (s .pre .1 .1 .1 .0 .node) f some o
 
 -- an arc reaches a new node
 abbrev head : tie.Then1 Inv-loop μ-loop → tie.At-loop Inv-loop μ-loop
@@ -83,19 +88,22 @@ shared-slice-read-at c = search needs
 
 cast-at : tie.Need-cast-at Inv-loop μ-loop
 cast-at c =
-    let s = c .before .before .before .before .before .before .before .before .before .before .before .before .before .before .before in
-    omega (arith, c .shared-slice-known12 .given (s .args .u))
+    let s = c .before .before .before .before .before .before .before .before .before .before .before .before .before .before in
+    omega (arith, c .shared-slice-known11 .given (s .args .u))
 
 loop-holds : tie.Need-loop-holds Inv-loop μ-loop
 loop-holds c =
-    let s = c .before .before .before .before .before .before .before .before .before .before .before .before .before .before .before in
-    fan-start (s .pre .1 .1 .0) (s .pre .1 .1 .1 .0) (s .pre .0 .within) (s .pre .1 .1 .1 .1 .0 .node) (s .pre .1 .1 .1 .1 .1)
+    let s = c .before .before .before .before .before .before .before .before .before .before .before .before .before .before in
+    fan-start (s .pre .1 .1 .0) (near-long (s .args .on) (s .pre .0)) (s .pre .1 .1 .1 .0 .node) (s .pre .1 .1 .1 .1)
 
 sub-a : tie.Need-sub-a Inv-loop μ-loop
 sub-a c = omega arith
 
 reached-by-requires : tie.Need-reached-by-requires Inv-loop μ-loop
-reached-by-requires c κs = (shaped (c .before .before), arc (c .before .before) (c .before .loop-test .taken))
+reached-by-requires c κs =
+    let l = c .before .before in
+    let t = c .before .loop-test .taken in
+    (shaped l, (arc l t, (f l .down .here (omega arith), standing-on (f l .further) (start l .pre .1 .1 .1 .0))))
 
 cast-dist : tie.Need-cast-dist Inv-loop μ-loop
 cast-dist c = omega (arith, mark (head c) (c .before .before .before .loop-test .taken) (c .before .reached-by .result) (opens c))
@@ -138,13 +146,13 @@ same-length-2 : tie.Need-same-length-2 Inv-loop μ-loop
 same-length-2 c =
     let p = c .before .before in
     let w = further (head p) (p .before .before .before .loop-test .taken) (p .before .reached-by .result) (opens p) in
-    w .underway .via-long ∙ w .grown .long ∙ sym (start (head p) .pre .1 .1 .1 .1 .1 .via-long)
+    w .underway .via-long ∙ w .grown .long ∙ sym (start (head p) .pre .1 .1 .1 .1 .via-long)
 
 same-length-3 : tie.Need-same-length-3 Inv-loop μ-loop
 same-length-3 c =
     let p = c .before .before in
     let w = further (head p) (p .before .before .before .loop-test .taken) (p .before .reached-by .result) (opens p) in
-    w .underway .queue-long ∙ w .grown .long ∙ sym (start (head p) .pre .1 .1 .1 .1 .1 .queue-long)
+    w .underway .queue-long ∙ w .grown .long ∙ sym (start (head p) .pre .1 .1 .1 .1 .queue-long)
 
 returns : tie.Need-returns Inv-loop μ-loop
 returns c =
@@ -166,14 +174,13 @@ shared-slice-read-at-2 c =
 cast-at-2 : tie.Need-cast-at-2 Inv-loop μ-loop
 cast-at-2 c =
     let l = c .before .before .before .before .before in
-    omega (arith, c .shared-slice-known14 .given (l .loop .at - 1))
+    omega (arith, c .shared-slice-known13 .given (l .loop .at - 1))
 
 loop-less : tie.Need-loop-less Inv-loop μ-loop
 loop-less c =
     let l = c .before .before .before .before .before in
     let s = start l in
-    let a = arc l (c .before .before .before .before .loop-test .taken) in
-    omega (arith, s .pre .1 .1 .0 .before-at (l .loop .at - 1) (omega (arith, s .pre .1 .1 .1 .0)) .below)
+    fan-less (s .pre .1 .1 .0) (near l) (s .pre .1 .1 .1 .0 .node) (f l) (c .before .before .before .before .loop-test .taken)
 
 loop-again : tie.Need-loop-again Inv-loop μ-loop
 loop-again c =
@@ -198,7 +205,7 @@ returns-2 : tie.Need-returns-2 Inv-loop μ-loop
 returns-2 c =
     let l = c .before in
     let s = start l in
-    (f l .further, λ _. fan-done (s .pre .1 .1 .0) (s .pre .1 .1 .1 .0) (s .pre .0 .within) (s .pre .1 .1 .1 .1 .0 .node) (f l) (c .loop-test .left))
+    (f l .further, λ _. fan-done (s .pre .1 .1 .0) (near l) (s .pre .1 .1 .1 .0 .node) (s .pre .0 .within) (f l) (c .loop-test .left))
 
 pub fan-spec : {M : Type 1} → statement M
 fan-spec =

@@ -13,16 +13,16 @@ use Rattle.residual.proofs.search.search.Statement.{statement}
 use Rattle.residual.proofs.search.search.Tie as tie
 
 abbrev Inv-loop : tie.InvT-loop
-Inv-loop tails heads lowers uppers costs x pot from dist₀ via₀ queue₀ wanted outs outlinks ins inlinks count₀ next₀ dist via queue count next = Going (residual tails heads lowers uppers costs x pot) from dist₀ wanted next count dist via queue
+Inv-loop tails heads lowers uppers costs x pot from dist₀ via₀ queue₀ wanted outs outlinks ins inlinks sources count₀ next₀ dist via queue count next = Going (residual tails heads lowers uppers costs x pot) from dist₀ wanted next count dist via queue
 
 abbrev μ-loop : tie.MeasureT-loop
-μ-loop tails heads lowers uppers costs x pot from dist₀ via₀ queue₀ wanted outs outlinks ins inlinks count₀ next₀ dist via queue count next = length dist₀ - next
+μ-loop tails heads lowers uppers costs x pot from dist₀ via₀ queue₀ wanted outs outlinks ins inlinks sources count₀ next₀ dist via queue count next = length dist₀ - next
 
 abbrev net : tie.Start Inv-loop μ-loop → Residual
 net s = residual (now (s .args .tails)) (now (s .args .heads)) (now (s .args .lowers)) (now (s .args .uppers)) (now (s .args .costs)) (now (s .args .x)) (now (s .args .pot))
 
 abbrev start : tie.At-loop Inv-loop μ-loop → tie.Start Inv-loop μ-loop
-start l = l .before .before .before .before .before .before .before .before .before .before .before .before .before .before .before .before .before .before .before .before .before
+start l = l .before .before .before .before .before .before .before .before .before .before .before .before .before .before .before .before
 
 module _ (l : tie.At-loop Inv-loop μ-loop) where
   abbrev s : tie.Start Inv-loop μ-loop
@@ -80,16 +80,10 @@ module _ (p : tie.After-visit Inv-loop μ-loop) where
   on : Going (net b) (b .args .from) (now (b .args .dist)) (now (b .args .wanted)) (h .loop .next) (p .visit .result) (marks p) (arcs p) (line p)
   on = going-on (g h) went
 
-enqueue-sources-requires : tie.Need-enqueue-sources-requires Inv-loop μ-loop
-enqueue-sources-requires c κs =
-    let s = c .before .before .before .before .before .before .before .before .before .before .before .before .before .before .before .before .before in
-    (s .pre .1 .0 .queue-long, (s .pre .0 .nodes-few, s .pre .1 .1 .1))
-
 loop-holds : tie.Need-loop-holds Inv-loop μ-loop
 loop-holds c =
-    let s = c .before .before .before .before .before .before .before .before .before .before .before .before .before .before .before .before .before .before .before .before in
-    let e = c .before .before .enqueue-sources in
-    going-start (net s) (s .args .from) (now (s .args .wanted)) (now (s .args .via)) (s .pre .1 .1 .1) (e .ensures) (s .pre .1 .0 .via-long) (e .kept .1 .0 ∙ s .pre .1 .0 .queue-long)
+    let s = c .before .before .before .before .before .before .before .before .before .before .before .before .before .before .before in
+    going-start (net s) (s .args .from) (now (s .args .wanted)) (now (s .args .via)) (s .pre .1 .1 .1 .0) (s .pre .1 .1 .1 .1) (s .pre .1 .0 .via-long) (s .pre .1 .0 .queue-long)
 
 node-at-requires : tie.Need-node-at-requires Inv-loop μ-loop
 node-at-requires c κs = place (c .before .before) (c .before .loop-test .taken)
@@ -194,7 +188,6 @@ search-spec =
     (tie.spec
     Inv-loop
     μ-loop
-    enqueue-sources-requires
     loop-holds
     node-at-requires
     mul-if1

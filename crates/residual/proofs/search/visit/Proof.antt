@@ -35,7 +35,7 @@ outward p = p .fan .ensures .0
 fan-requires : tie.Need-fan-requires
 fan-requires c κs =
     let s = c .before .before .before .before .before .before .before .before .before .before .before .before .before .before .before .before .before .before in
-    (s .pre .0, (s .pre .1 .0, (s .pre .1 .1 .0 .by-tail, (refl, (s .pre .1 .1 .1 .0, s .pre .1 .1 .1 .1)))))
+    (s .pre .0, (s .pre .1 .0, (s .pre .1 .1 .0 .by-tail, (s .pre .1 .1 .1 .0, s .pre .1 .1 .1 .1))))
 
 sub-node-at : tie.Need-sub-node-at
 sub-node-at c = search needs
@@ -72,7 +72,7 @@ fan-requires-2 c κs =
     let p = c .before .before .before .before .before .before .before .before .before .before .before .before .before in
     let s = start p in
     let long = outward p .grown .long in
-    (subst (Shaped (net s)) (sym long) (s .pre .0), (s .pre .1 .0 ∙ sym long, (subst (λ (n : ℕ). Chain (now (s .args .heads)) (now (s .args .lowers)) (now (s .args .uppers)) n (now (s .args .ins)) (now (s .args .inlinks))) (sym long) (s .pre .1 .1 .0 .by-head), (s .pre .0 .heads-long, (standing-on (outward p) (s .pre .1 .1 .1 .0), outward p .underway)))))
+    (subst (Shaped (net s)) (sym long) (s .pre .0), (s .pre .1 .0 ∙ sym long, (subst (λ (n : ℕ). Chain (now (s .args .heads)) (now (s .args .lowers)) (now (s .args .uppers)) n (now (s .args .ins)) (now (s .args .inlinks))) (sym long) (s .pre .1 .1 .0 .by-head), (standing-on (outward p) (s .pre .1 .1 .1 .0), outward p .underway))))
 
 same-length-4 : tie.Need-same-length-4
 same-length-4 c = search needs
