@@ -36,6 +36,7 @@ pub mod RatedSome
 pub mod RatedBest
 pub mod Unpriced
 pub mod OneBest
+pub mod Joints
 pub mod Accepted
 pub mod HeldPlate
 pub mod Filled
