@@ -1,49 +1,75 @@
--- A lent list filled from the front, and a list of two parts told by its numbers.
+-- Lent lists filled from the front and by corners, and a list of two parts told by its numbers.
 use mathlib.Core.Path.{_≡_, refl, sym, ap, _∙_}
-use mathlib.Core.Bool.{Bool}
 use mathlib.Core.List.{List, _++_}
-use Prim.Native.Nat.{ℕ, _+_, _-_, _≤_, _<_}
+use Prim.Native.Nat.{ℕ, suc, _+_, _≤_, _<_}
 use native.Mathlib.Omega.{arith}
-use borrow.Author.Tests.{lt-ltb, le-ltb}
-use lib.Dec.{ltb}
+use borrow.Author.Count.{below-more}
 use lib.ListN.{length, getD, set, length-set, length-append}
-use lib.Seq.{ext-getD}
-use Rattle.finite.specs.Base.{pick}
+use lib.Seq.{ext-getD, getD-set-same, getD-set-other}
 use Rattle.finite.specs.Tables.{Table}
 use Rattle.flow.proofs.Fills.{filled-more}
+use Rattle.shapes.specs.NetworkOf.{byArc}
+use Rattle.shapes.specs.Entries.{Begun, CornersLaid}
 use Rattle.shapes.proofs.Tables.{getD-first, getD-second, by-parts}
+use Rattle.shapes.proofs.Arcs.{by-arcs, arcs-long, at-bend, at-low, at-high}
 
--- a list of n numbers, those below k given by f
-pub record Begun (n : ℕ) (f : ℕ → ℕ) (k : ℕ) (xs : List ℕ) : Type 0 where
-  pub size : length xs ≡ n
-  pub below : (i : ℕ) → i < k → getD xs i 0 ≡ f i
-  pub upto : k ≤ n
-
-pub begun-none : {f : ℕ → ℕ} (xs : List ℕ) → Begun (length xs) f 0 xs
-begun-none xs = record { size = refl; below = λ i l. absurd (omega arith); upto = omega arith }
+pub begun-none : {n : ℕ} {f : ℕ → ℕ} {xs : List ℕ} → length xs ≡ n → Begun n f 0 xs
+begun-none e = record { size = e; below = λ i l. absurd (omega arith) }
 
 module _ {n : ℕ} {f : ℕ → ℕ} {k : ℕ} {xs : List ℕ} (b : Begun n f k xs) where
   pub begun-more : {w : ℕ} → k < length xs → w ≡ f k → Begun n f (k + 1) (set xs k w)
-  begun-more {w} l e = record { size = length-set xs k w ∙ b .size; below = filled-more f xs k w l (b .below) e; upto = omega (arith, b .size) }
+  begun-more {w} l e = record { size = length-set xs k w ∙ b .size; below = filled-more f xs k w l (b .below) e }
 
-  pub begun-done : {m : ℕ} → length xs ≤ k → n ≡ m → Table m f xs
-  begun-done l e = record { size = b .size ∙ e; at = λ i h. b .below i (omega (arith, b .size)) }
+  pub begun-upto : {j : ℕ} → j ≤ k → Begun n f j xs
+  begun-upto l = record { size = b .size; below = λ i h. b .below i (omega arith) }
+
+  pub begun-done : length xs ≤ k → Table n f xs
+  begun-done l = record { size = b .size; at = λ i h. b .below i (omega (arith, b .size)) }
+
+-- the two arcs of each corner, one corner after the other
+pub corners-none : (m : ℕ) {g h : ℕ → ℕ} (xs : List ℕ) → CornersLaid m g h 0 xs xs
+corners-none m xs = record { size = refl; bend = λ d l. refl; first = λ d l. absurd (omega arith); second = λ d l. absurd (omega arith) }
+
+module _ {m : ℕ} {g h : ℕ → ℕ} {k : ℕ} {ys xs : List ℕ} (c : CornersLaid m g h k ys xs) where
+  before-both : (w u i : ℕ) → i < m + k + k → getD (set (set xs (m + k + k) w) (m + k + k + 1) u) i 0 ≡ getD xs i 0
+  before-both w u i l =
+      getD-set-other (set xs (m + k + k) w) (m + k + k + 1) i u 0 (λ (e : i ≡ m + k + k + 1). absurd (omega arith))
+      ∙ getD-set-other xs (m + k + k) i w 0 (λ (e : i ≡ m + k + k). absurd (omega arith))
+
+  pub corners-more : {w u : ℕ} → m + k + k + 1 < length xs → w ≡ g k → u ≡ h k → CornersLaid m g h (k + 1) ys (set (set xs (m + k + k) w) (m + k + k + 1) u)
+  corners-more {w} {u} l low high =
+      let zs = set (set xs (m + k + k) w) (m + k + k + 1) u in
+      record {
+        size = length-set (set xs (m + k + k) w) (m + k + k + 1) u ∙ length-set xs (m + k + k) w ∙ c .size;
+        bend = λ d less. before-both w u d (omega arith) ∙ c .bend d less;
+        first = below-more (λ (d : ℕ). getD zs (m + d + d) 0 ≡ g d) k (λ d less. before-both w u (m + d + d) (omega arith) ∙ c .first d less)
+            (getD-set-other (set xs (m + k + k) w) (m + k + k + 1) (m + k + k) u 0 (λ (e : m + k + k ≡ m + k + k + 1). absurd (omega arith))
+            ∙ getD-set-same xs (m + k + k) w 0 (omega arith) ∙ low);
+        second = below-more (λ (d : ℕ). getD zs (m + d + d + 1) 0 ≡ h d) k (λ d less. before-both w u (m + d + d + 1) (omega arith) ∙ c .second d less)
+            (getD-set-same (set xs (m + k + k) w) (m + k + k + 1) u 0 (omega (arith, length-set xs (m + k + k) w)) ∙ high);
+      }
+
+  pub corners-done : m ≤ k → CornersLaid m g h m ys xs
+  corners-done l = record { size = c .size; bend = c .bend; first = λ d less. c .first d (omega arith); second = λ d less. c .second d (omega arith) }
+
+-- the darts' arcs, then the corners'
+pub arcs-laid : {m : ℕ} {f g h : ℕ → ℕ} {ys xs : List ℕ} → Begun (m + (m + m)) f m ys → CornersLaid m g h m ys xs → (f′ g′ h′ : ℕ → ℕ)
+    → ((d : ℕ) → d < m → f d ≡ f′ d) → ((d : ℕ) → d < m → g d ≡ g′ d) → ((d : ℕ) → d < m → h d ≡ h′ d) → xs ≡ byArc m f′ g′ h′
+arcs-laid {m} {f} {g} {h} {ys} {xs} b c f′ g′ h′ bend low high =
+    ext-getD 0 xs (byArc m f′ g′ h′) (c .size ∙ b .size ∙ sym (arcs-long m f′ g′ h′))
+    (λ i l. by-arcs (λ a. getD xs a 0 ≡ getD (byArc m f′ g′ h′) a 0) m
+    (λ d n. c .bend d n ∙ b .below d n ∙ bend d n ∙ sym (at-bend m f′ g′ h′ d n))
+    (λ d n. ap (λ (a : ℕ). getD xs a 0) (first-is d) ∙ c .first d n ∙ low d n ∙ sym (at-low m f′ g′ h′ d n))
+    (λ d n. ap (λ (a : ℕ). getD xs a 0) (second-is d) ∙ c .second d n ∙ high d n ∙ sym (at-high m f′ g′ h′ d n)) i (omega (arith, b .size, c .size)))
+  where
+    first-is : (d : ℕ) → m + (d + d) ≡ m + d + d
+    first-is d = omega arith
+
+    second-is : (d : ℕ) → m + suc (d + d) ≡ m + d + d + 1
+    second-is d = omega arith
 
 pub table-of : {n m : ℕ} {f : ℕ → ℕ} {xs : List ℕ} → n ≡ m → Table n f xs → Table m f xs
 table-of e t = record { size = t .size ∙ e; at = λ i l. t .at i (omega arith) }
-
--- one rule below m, another from m on
-module _ (m : ℕ) (f g : ℕ → ℕ) where
-  pub half-first : (d : ℕ) → d < m → pick (ltb d m) (f d) (g (d - m)) ≡ f d
-  half-first d l = ap (λ (b : Bool). pick b (f d) (g (d - m))) (lt-ltb d m l)
-
-  pub half-last : (d : ℕ) → m ≤ d → pick (ltb d m) (f d) (g (d - m)) ≡ g (d - m)
-  half-last d l = ap (λ (b : Bool). pick b (f d) (g (d - m))) (le-ltb d m l)
-
-  pub half-second : (d : ℕ) → pick (ltb (m + d) m) (f (m + d)) (g (m + d - m)) ≡ g d
-  half-second d =
-      let e : m + d - m ≡ d = omega arith in
-      half-last (m + d) (omega arith) ∙ ap g e
 
 pub parts-are : (m n : ℕ) (f : ℕ → ℕ) (xs ys zs : List ℕ) → Table (m + n) f xs → length ys ≡ m → length zs ≡ n
     → ((d : ℕ) → d < m → f d ≡ getD ys d 0) → ((d : ℕ) → d < n → f (m + d) ≡ getD zs d 0) → xs ≡ ys ++ zs

@@ -1,14 +1,13 @@
 -- The lists that are laid for a held plate are those of its network: by dart, corner, post and face.
-use mathlib.Core.Path.{_≡_, sym, ap, ap₂, _∙_}
-use mathlib.Core.Bool.{Bool, true, false}
+use mathlib.Core.Path.{_≡_, refl, sym, ap, _∙_}
+use mathlib.Core.Bool.{Bool}
 use mathlib.Core.List.{List, map}
-use Prim.Native.Nat.{ℕ, suc, _+_, _-_, _*_, _/_, _%_, _≤_, _<_}
+use Prim.Native.Nat.{ℕ, _+_, _-_, _*_, _%_, _≤_, _<_}
 use native.Mathlib.Decide.{decLt}
 use native.Mathlib.Omega.{arith}
-use borrow.Author.Tests.{eq-eqb, ne-eqb, lt-ltb, le-ltb}
+use borrow.Author.Tests.{ne-eqb, lt-ltb, le-ltb}
 use lib.Dec.{eqb}
 use lib.ListN.{length, getD, replicate, length-replicate, getD-replicate, length-map}
-use lib.Seq.{ext-getD}
 use Rattle.finite.specs.Tables.{Table}
 use Rattle.finite.proofs.Tables.{up-below, up-from}
 use Rattle.finite.proofs.Tests.{eqb-turned}
@@ -25,38 +24,13 @@ use Rattle.embedding.proofs.Answers.{faces-fit}
 use Rattle.shapes.specs.Claims.{Standing, Accepted}
 use Rattle.shapes.specs.Rates.{rates}
 use Rattle.shapes.specs.NetworkOf.{byArc, faceNode, isOuter, faceSupply, faceDemand, isJoint, bendMost, bendCost, networkOf, ratedOf}
-use Rattle.shapes.specs.Entries.{nodeAt, tailAt, headAt, lowerAt, jointAt, cornerMost, upperAt, costAt, supplyAt, demandAt, Faced, Jointed, Sized}
+use Rattle.shapes.specs.Entries.{nodeAt, jointAt, supplyAt, demandAt, Faced, Jointed, Sized, Begun, CornersLaid, BendEnds, BendRates, CornerEnds, CornerRates}
 use Rattle.shapes.proofs.Tables.{getD-map-in}
-use Rattle.shapes.proofs.Arcs.{by-arcs, arcs-long, at-bend, at-low, at-high}
 use Rattle.shapes.proofs.Places.{index-below, index-test, face-below-darts}
 use Rattle.shapes.proofs.Nodes.{eqb-shift}
 use Rattle.shapes.proofs.Accepted.{faultless, ordered}
-use Rattle.shapes.proofs.Filled.{half-first, half-second, parts-are}
+use Rattle.shapes.proofs.Filled.{arcs-laid, parts-are}
 use Rattle.shapes.proofs.HeldPlate.{ends-keys}
-
--- the corner of an arc, and which of its two arcs it is
-half-low : (d : ℕ) → (d + d) / 2 ≡ d
-half-low d = omega arith
-
-half-high : (d : ℕ) → suc (d + d) / 2 ≡ d
-half-high d = omega arith
-
-is-first : (d : ℕ) → eqb ((d + d) % 2) 0 ≡ true
-is-first d = eq-eqb ((d + d) % 2) 0 (omega arith)
-
-is-second : (d : ℕ) → eqb (suc (d + d) % 2) 0 ≡ false
-is-second d = ne-eqb (suc (d + d) % 2) 0 (λ (e : suc (d + d) % 2 ≡ 0). omega arith)
-
--- a list by arc, told by its numbers
-arcs-by : (k m : ℕ) → k ≡ m → (rule f g h : ℕ → ℕ) (xs : List ℕ) → Table (k + (k + k)) rule xs
-    → ((d : ℕ) → d < k → rule d ≡ f d) → ((d : ℕ) → d < k → rule (k + (d + d)) ≡ g d) → ((d : ℕ) → d < k → rule (k + suc (d + d)) ≡ h d) → xs ≡ byArc m f g h
-arcs-by k m e rule f g h xs t bend low high =
-    ext-getD 0 xs (byArc k f g h) (t .size ∙ sym (arcs-long k f g h))
-    (λ i l. by-arcs (λ a. getD xs a 0 ≡ getD (byArc k f g h) a 0) k
-    (λ d n. t .at d (omega arith) ∙ bend d n ∙ sym (at-bend k f g h d n))
-    (λ d n. t .at (k + (d + d)) (omega arith) ∙ low d n ∙ sym (at-low k f g h d n))
-    (λ d n. t .at (k + suc (d + d)) (omega arith) ∙ high d n ∙ sym (at-high k f g h d n)) i (omega (arith, t .size)))
-    ∙ ap (λ (n : ℕ). byArc n f g h) e
 
 module _ (p : Plate) (q : Held) (s : Stands q p) (a : Accepted p) where
   few : q .darts ≤ 256
@@ -118,32 +92,6 @@ module _ (p : Plate) (q : Held) (s : Stands q p) (a : Accepted p) where
   ends-are : (d : ℕ) → d < q .darts → getD (q .ends) (twin d) 0 ≡ endsAt p d
   ends-are d l = s .strip-ends .at (twin d) (omega (arith, few, twin-below d l))
 
-  tails-are : (xs : List ℕ) → Table (q .darts + (q .darts + q .darts)) (tailAt (q .posts) (q .darts) (q .ends) (q .face)) xs → xs ≡ byArc (darts p) (λ d. faceNode p d) (λ d. endsAt p d) (λ d. endsAt p d)
-  tails-are xs t =
-      let n = nodeAt (q .posts) (q .face) in
-      let e : ℕ → ℕ = λ j. getD (q .ends) (twin (j / 2)) 0 in
-      arcs-by (q .darts) (darts p) (s .dart-count) (tailAt (q .posts) (q .darts) (q .ends) (q .face)) (λ d. faceNode p d) (λ d. endsAt p d) (λ d. endsAt p d) xs t
-      (λ d l. half-first (q .darts) n e d l ∙ node-is d l)
-      (λ d l. half-second (q .darts) n e (d + d) ∙ ap (λ (k : ℕ). getD (q .ends) (twin k) 0) (half-low d) ∙ ends-are d l)
-      (λ d l. half-second (q .darts) n e (suc (d + d)) ∙ ap (λ (k : ℕ). getD (q .ends) (twin k) 0) (half-high d) ∙ ends-are d l)
-
-  heads-are : (xs : List ℕ) → Table (q .darts + (q .darts + q .darts)) (headAt (q .posts) (q .darts) (q .face)) xs → xs ≡ byArc (darts p) (λ d. faceNode p (twin d)) (λ d. faceNode p d) (λ d. faceNode p d)
-  heads-are xs t =
-      let n = nodeAt (q .posts) (q .face) in
-      let e : ℕ → ℕ = λ j. nodeAt (q .posts) (q .face) (j / 2) in
-      arcs-by (q .darts) (darts p) (s .dart-count) (headAt (q .posts) (q .darts) (q .face)) (λ d. faceNode p (twin d)) (λ d. faceNode p d) (λ d. faceNode p d) xs t
-      (λ d l. half-first (q .darts) (λ b. n (twin b)) e d l ∙ node-is (twin d) (twin-below d l))
-      (λ d l. half-second (q .darts) (λ b. n (twin b)) e (d + d) ∙ ap n (half-low d) ∙ node-is d l)
-      (λ d l. half-second (q .darts) (λ b. n (twin b)) e (suc (d + d)) ∙ ap n (half-high d) ∙ node-is d l)
-
-  lowers-are : (xs : List ℕ) → Table (q .darts + (q .darts + q .darts)) (lowerAt (q .darts)) xs → xs ≡ byArc (darts p) (λ d. 0) (λ d. 1) (λ d. 0)
-  lowers-are xs t =
-      let e : ℕ → ℕ = λ j. pick (eqb (j % 2) 0) 1 0 in
-      arcs-by (q .darts) (darts p) (s .dart-count) (lowerAt (q .darts)) (λ d. 0) (λ d. 1) (λ d. 0) xs t
-      (λ d l. half-first (q .darts) (λ b. 0) e d l)
-      (λ d l. half-second (q .darts) (λ b. 0) e (d + d) ∙ ap (λ (b : Bool). pick b 1 0) (is-first d))
-      (λ d l. half-second (q .darts) (λ b. 0) e (suc (d + d)) ∙ ap (λ (b : Bool). pick b 1 0) (is-second d))
-
   -- a joint is a post of degree 2
   joint-is : (d : ℕ) → d < q .darts → jointAt (q .ends) (q .degrees) d ≡ isJoint p d
   joint-is d l =
@@ -151,22 +99,10 @@ module _ (p : Plate) (q : Held) (s : Stands q p) (a : Accepted p) where
       ap (λ (v : ℕ). eqb (getD (q .degrees) v 0) 2) (ends-are d l)
       ∙ ap (λ (n : ℕ). eqb n 2) (s .post-degrees .at (endsAt p d) (omega (arith, faultless p a .posts-most)) ∙ up-below (p .posts) (degree p) (endsAt p d) k)
 
-  uppers-are : (ls xs : List ℕ) → Table (q .darts + (q .darts + q .darts)) (upperAt (q .darts) ls (q .ends) (q .degrees)) xs
-      → xs ≡ byArc (darts p) (λ d. bendMost ls d) (λ d. pick (isJoint p d) 2 4) (λ d. pick (isJoint p d) 1 0)
-  uppers-are ls xs t =
-      let e : ℕ → ℕ = λ j. cornerMost (jointAt (q .ends) (q .degrees) (j / 2)) (eqb (j % 2) 0) in
-      arcs-by (q .darts) (darts p) (s .dart-count) (upperAt (q .darts) ls (q .ends) (q .degrees)) (λ d. bendMost ls d) (λ d. pick (isJoint p d) 2 4) (λ d. pick (isJoint p d) 1 0) xs t
-      (λ d l. half-first (q .darts) (λ b. bendMost ls b) e d l)
-      (λ d l. half-second (q .darts) (λ b. bendMost ls b) e (d + d) ∙ ap₂ cornerMost (ap (jointAt (q .ends) (q .degrees)) (half-low d) ∙ joint-is d l) (is-first d))
-      (λ d l. half-second (q .darts) (λ b. bendMost ls b) e (suc (d + d)) ∙ ap₂ cornerMost (ap (jointAt (q .ends) (q .degrees)) (half-high d) ∙ joint-is d l) (is-second d))
-
-  costs-are : (ps xs : List ℕ) → Table (q .darts + (q .darts + q .darts)) (costAt (q .darts) ps) xs → xs ≡ byArc (darts p) (λ d. bendCost ps d) (λ d. 0) (λ d. 65536)
-  costs-are ps xs t =
-      let e : ℕ → ℕ = λ j. pick (eqb (j % 2) 0) 0 65536 in
-      arcs-by (q .darts) (darts p) (s .dart-count) (costAt (q .darts) ps) (λ d. bendCost ps d) (λ d. 0) (λ d. 65536) xs t
-      (λ d l. half-first (q .darts) (λ b. bendCost ps b) e d l)
-      (λ d l. half-second (q .darts) (λ b. bendCost ps b) e (d + d) ∙ ap (λ (b : Bool). pick b 0 65536) (is-first d))
-      (λ d l. half-second (q .darts) (λ b. bendCost ps b) e (suc (d + d)) ∙ ap (λ (b : Bool). pick b 0 65536) (is-second d))
+  -- the lists by arc
+  by-arc : (f g h : ℕ → ℕ) → {f₀ g₀ h₀ : ℕ → ℕ} {ys xs : List ℕ} → Begun (q .darts + (q .darts + q .darts)) f₀ (q .darts) ys → CornersLaid (q .darts) g₀ h₀ (q .darts) ys xs
+      → ((d : ℕ) → d < q .darts → f₀ d ≡ f d) → ((d : ℕ) → d < q .darts → g₀ d ≡ g d) → ((d : ℕ) → d < q .darts → h₀ d ≡ h d) → xs ≡ byArc (darts p) f g h
+  by-arc f g h b c bend low high = arcs-laid b c f g h bend low high ∙ ap (λ (n : ℕ). byArc n f g h) (s .dart-count)
 
   outer-test : (i : ℕ) → i < length (faces p) → eqb (q .posts + i) outer ≡ isOuter p (getD (faces p) i 0)
   outer-test i l =
@@ -200,21 +136,19 @@ module _ (p : Plate) (q : Held) (s : Stands q p) (a : Accepted p) where
       ∙ ap (λ (j : ℕ). 2 * getD (q .sizes) j 0 + pick (eqb (q .posts + i) outer) 4 0) e
       ∙ face-demand i k ∙ sym (getD-map-in (faceDemand p) (faces p) i k))
 
-  pub network-laid : (limits prices ts hs ls us cs ss ds : List ℕ)
-      → Table (q .darts + (q .darts + q .darts)) (tailAt (q .posts) (q .darts) (q .ends) (q .face)) ts
-      → Table (q .darts + (q .darts + q .darts)) (headAt (q .posts) (q .darts) (q .face)) hs
-      → Table (q .darts + (q .darts + q .darts)) (lowerAt (q .darts)) ls
-      → Table (q .darts + (q .darts + q .darts)) (upperAt (q .darts) limits (q .ends) (q .degrees)) us
-      → Table (q .darts + (q .darts + q .darts)) (costAt (q .darts) prices) cs
+  pub network-laid : (limits prices : List ℕ) {ts₀ hs₀ ls₀ us₀ cs₀ ts hs ls us cs ss ds : List ℕ}
+      → BendEnds (q .posts) (q .darts) (q .face) (q .darts) ts₀ hs₀ → BendRates (q .darts) limits prices (q .darts) ls₀ us₀ cs₀
+      → CornerEnds (q .posts) (q .darts) (q .ends) (q .face) (q .darts) ts₀ hs₀ ts hs → CornerRates (q .darts) (q .ends) (q .degrees) (q .darts) ls₀ us₀ cs₀ ls us cs
       → Table (q .posts + q .faces) (supplyAt (q .posts + getD (q .face) (q .outer) 0)) ss
       → Table (q .posts + q .faces) (demandAt (q .posts) (q .sizes) (q .posts + getD (q .face) (q .outer) 0)) ds
       → network ts hs ls us cs ss ds ≡ ratedOf p (rates limits prices)
-  network-laid limits prices ts hs ls us cs ss ds t h l u c su d = λ i. record {
-    tails = tails-are ts t i;
-    heads = heads-are hs h i;
-    lowers = lowers-are ls l i;
-    uppers = uppers-are limits us u i;
-    costs = costs-are prices cs c i;
+  network-laid limits prices {ss = ss} {ds = ds} be br ce cr su d = λ i. record {
+    tails = by-arc (λ d. faceNode p d) (λ d. endsAt p d) (λ d. endsAt p d) (be .tails-begun) (ce .tails-laid) node-is ends-are ends-are i;
+    heads = by-arc (λ d. faceNode p (twin d)) (λ d. faceNode p d) (λ d. faceNode p d) (be .heads-begun) (ce .heads-laid) (λ d l. node-is (twin d) (twin-below d l)) node-is node-is i;
+    lowers = by-arc (λ d. 0) (λ d. 1) (λ d. 0) (br .lowers-begun) (cr .lowers-laid) (λ d l. refl) (λ d l. refl) (λ d l. refl) i;
+    uppers = by-arc (λ d. bendMost limits d) (λ d. pick (isJoint p d) 2 4) (λ d. pick (isJoint p d) 1 0) (br .uppers-begun) (cr .uppers-laid) (λ d l. refl)
+        (λ d l. ap (λ (b : Bool). pick b 2 4) (joint-is d l)) (λ d l. ap (λ (b : Bool). pick b 1 0) (joint-is d l)) i;
+    costs = by-arc (λ d. bendCost prices d) (λ d. 0) (λ d. 65536) (br .costs-begun) (cr .costs-laid) (λ d l. refl) (λ d l. refl) (λ d l. refl) i;
     supplies = supplies-are ss su i;
     demands = demands-are ds d i;
   }

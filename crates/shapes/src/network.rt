@@ -9,7 +9,7 @@ ghost use Rattle.embedding.specs.Read.{Stands};
 ghost use Rattle.shapes.specs.Claims.{Standing, Accepted};
 ghost use Rattle.shapes.specs.Rates.{rates};
 ghost use Rattle.shapes.specs.NetworkOf.{bendMost, ratedOf};
-ghost use Rattle.shapes.specs.Entries.{nodeAt, tailAt, headAt, lowerAt, jointAt, cornerMost, upperAt, costAt, supplyAt, demandAt, Faced, Jointed, Sized, Lent};
+ghost use Rattle.shapes.specs.Entries.{nodeAt, jointAt, cornerMost, supplyAt, demandAt, Faced, Jointed, Sized, BendEnds, BendRates, CornerEnds, CornerRates, Lent};
 use crate::judge::key_of;
 use embedding::Plate;
 use embedding::twin_of;
@@ -20,39 +20,6 @@ fn node_of(posts: usize, darts: usize, face: &[u8], d: usize) -> u8
     ensures { λ r. ⌜ r ≡ nodeAt posts (now (face .entry)) d ⌝ }
 {
     posts as u8 + face[d]
-}
-
-// Where arc `a` starts: a dart at its face, a corner's at its post.
-fn tail_of(posts: usize, darts: usize, ends: &[u8], face: &[u8], a: usize) -> u8
-    requires { ⌜ Faced posts darts (now face) × (length (now ends) ≡ 256) × (a < darts + (darts + darts)) ⌝ }
-    ensures { λ r. ⌜ r ≡ tailAt posts darts (now (ends .entry)) (now (face .entry)) a ⌝ }
-{
-    if a < darts {
-        return node_of(posts, darts, face, a);
-    }
-    let t = twin_of((a - darts) / 2);
-    ends[t]
-}
-
-// Where arc `a` ends: a dart at its twin's face, a corner's at its dart's.
-fn head_of(posts: usize, darts: usize, face: &[u8], a: usize) -> u8
-    requires { ⌜ Faced posts darts (now face) × (a < darts + (darts + darts)) ⌝ }
-    ensures { λ r. ⌜ r ≡ headAt posts darts (now (face .entry)) a ⌝ }
-{
-    if a < darts {
-        return node_of(posts, darts, face, twin_of(a));
-    }
-    node_of(posts, darts, face, (a - darts) / 2)
-}
-
-// The least units on arc `a`: the first arc of a corner has one.
-fn lower_of(darts: usize, a: usize) -> u16
-    ensures { λ r. ⌜ r ≡ lowerAt darts a ⌝ }
-{
-    if a < darts {
-        return 0;
-    }
-    if (a - darts) % 2 == 0 { 1 } else { 0 }
 }
 
 // The most units across the strip of dart `d`: its limit, 255 being none.
@@ -93,19 +60,6 @@ fn corner_most(joint: bool, first: bool) -> u16
     if joint { 1 } else { 0 }
 }
 
-// The most units on arc `a`.
-fn upper_of(darts: usize, limits: &[u8], ends: &[u8], degrees: &[u8], a: usize) -> u16
-    requires { ⌜ Jointed darts (now ends) (now degrees) × (a < darts + (darts + darts)) ⌝ }
-    ensures { λ r. ⌜ r ≡ upperAt darts (now (limits .entry)) (now (ends .entry)) (now (degrees .entry)) a ⌝ }
-{
-    if a < darts {
-        return bend_most(limits, a);
-    }
-    let joint = is_joint(ends, degrees, darts, (a - darts) / 2);
-    let first = (a - darts) % 2 == 0;
-    corner_most(joint, first)
-}
-
 // The price of a bend on dart `d`.
 fn bend_price(prices: &[u8], d: usize) -> u64
     ensures { λ r. ⌜ (r ≡ getD (now (prices .entry)) (d / 2) 1) × (r < 256) ⌝ }
@@ -115,16 +69,6 @@ fn bend_price(prices: &[u8], d: usize) -> u64
         return 1;
     }
     prices[i] as u64
-}
-
-// What a unit on arc `a` costs.
-fn cost_of(darts: usize, prices: &[u8], a: usize) -> u64
-    ensures { λ r. ⌜ r ≡ costAt darts (now (prices .entry)) a ⌝ }
-{
-    if a < darts {
-        return bend_price(prices, a) * 4294967296 + 1;
-    }
-    if (a - darts) % 2 == 0 { 0 } else { 65536 }
 }
 
 // What node `v` supplies: the outer face nothing.
@@ -149,58 +93,90 @@ fn demand_of(posts: usize, sizes: &[u16], outer: usize, v: usize) -> u16
     corners
 }
 
-fn fill_tails(posts: usize, darts: usize, ends: &[u8], face: &[u8], tails: &mut [u8])
-    requires { ⌜ Faced posts darts (now face) × (length (now ends) ≡ 256) × (length (now tails) ≡ darts + (darts + darts)) ⌝ }
-    ensures { λ r. ⌜ Table (darts + (darts + darts)) (tailAt posts darts (now (ends .entry)) (now (face .entry))) (now (tails .exit)) ⌝ }
+// The arcs of the darts: from a dart's face to its twin's.
+fn fill_bend_ends(posts: usize, darts: usize, face: &[u8], tails: &mut [u8], heads: &mut [u8])
+    requires { ⌜ Faced posts darts (now face) × (length (now tails) ≡ darts + (darts + darts)) × (length (now heads) ≡ darts + (darts + darts)) ⌝ }
+    ensures { λ r. ⌜ BendEnds posts darts (now (face .entry)) darts (now (tails .exit)) (now (heads .exit)) ⌝ }
 {
-    let mut a = 0;
-    while a < tails.len() {
-        tails[a] = tail_of(posts, darts, ends, face, a);
-        a += 1;
+    let mut d = 0;
+    while d < darts {
+        tails[d] = node_of(posts, darts, face, d);
+        heads[d] = node_of(posts, darts, face, twin_of(d));
+        d += 1;
     }
 }
 
-fn fill_heads(posts: usize, darts: usize, face: &[u8], heads: &mut [u8])
-    requires { ⌜ Faced posts darts (now face) × (length (now heads) ≡ darts + (darts + darts)) ⌝ }
-    ensures { λ r. ⌜ Table (darts + (darts + darts)) (headAt posts darts (now (face .entry))) (now (heads .exit)) ⌝ }
+// The bounds and costs of the darts' arcs: a unit is a bend.
+fn fill_bend_rates(
+    darts: usize,
+    limits: &[u8],
+    prices: &[u8],
+    lowers: &mut [u16],
+    uppers: &mut [u16],
+    costs: &mut [u64],
+)
+    requires { ⌜ (length (now lowers) ≡ darts + (darts + darts)) × (length (now uppers) ≡ darts + (darts + darts)) × (length (now costs) ≡ darts + (darts + darts)) ⌝ }
+    ensures { λ r. ⌜ BendRates darts (now (limits .entry)) (now (prices .entry)) darts (now (lowers .exit)) (now (uppers .exit)) (now (costs .exit)) ⌝ }
 {
-    let mut a = 0;
-    while a < heads.len() {
-        heads[a] = head_of(posts, darts, face, a);
-        a += 1;
+    let mut d = 0;
+    while d < darts {
+        lowers[d] = 0;
+        uppers[d] = bend_most(limits, d);
+        costs[d] = bend_price(prices, d) * 4294967296 + 1;
+        d += 1;
     }
 }
 
-fn fill_lowers(darts: usize, lowers: &mut [u16])
-    requires { ⌜ length (now lowers) ≡ darts + (darts + darts) ⌝ }
-    ensures { λ r. ⌜ Table (darts + (darts + darts)) (lowerAt darts) (now (lowers .exit)) ⌝ }
+// The arcs of the corners, two to each: from the post to the dart's face.
+fn fill_corner_ends(
+    posts: usize,
+    darts: usize,
+    ends: &[u8],
+    face: &[u8],
+    tails: &mut [u8],
+    heads: &mut [u8],
+)
+    requires { ⌜ Faced posts darts (now face) × (length (now ends) ≡ 256) × (length (now tails) ≡ darts + (darts + darts)) × (length (now heads) ≡ darts + (darts + darts)) ⌝ }
+    ensures { λ r. ⌜ CornerEnds posts darts (now (ends .entry)) (now (face .entry)) darts (now (tails .entry)) (now (heads .entry)) (now (tails .exit)) (now (heads .exit)) ⌝ }
 {
-    let mut a = 0;
-    while a < lowers.len() {
-        lowers[a] = lower_of(darts, a);
-        a += 1;
+    let mut d = 0;
+    while d < darts {
+        let first = darts + d + d;
+        let second = first + 1;
+        let post = ends[twin_of(d)];
+        let node = node_of(posts, darts, face, d);
+        tails[first] = post;
+        tails[second] = post;
+        heads[first] = node;
+        heads[second] = node;
+        d += 1;
     }
 }
 
-fn fill_uppers(darts: usize, limits: &[u8], ends: &[u8], degrees: &[u8], uppers: &mut [u16])
-    requires { ⌜ Jointed darts (now ends) (now degrees) × (length (now uppers) ≡ darts + (darts + darts)) ⌝ }
-    ensures { λ r. ⌜ Table (darts + (darts + darts)) (upperAt darts (now (limits .entry)) (now (ends .entry)) (now (degrees .entry))) (now (uppers .exit)) ⌝ }
+// The bounds and costs of the corners' arcs: at least one unit on the first, and on the second the unit that makes a cornered post.
+fn fill_corner_rates(
+    darts: usize,
+    ends: &[u8],
+    degrees: &[u8],
+    lowers: &mut [u16],
+    uppers: &mut [u16],
+    costs: &mut [u64],
+)
+    requires { ⌜ Jointed darts (now ends) (now degrees) × (length (now lowers) ≡ darts + (darts + darts)) × (length (now uppers) ≡ darts + (darts + darts)) × (length (now costs) ≡ darts + (darts + darts)) ⌝ }
+    ensures { λ r. ⌜ CornerRates darts (now (ends .entry)) (now (degrees .entry)) darts (now (lowers .entry)) (now (uppers .entry)) (now (costs .entry)) (now (lowers .exit)) (now (uppers .exit)) (now (costs .exit)) ⌝ }
 {
-    let mut a = 0;
-    while a < uppers.len() {
-        uppers[a] = upper_of(darts, limits, ends, degrees, a);
-        a += 1;
-    }
-}
-
-fn fill_costs(darts: usize, prices: &[u8], costs: &mut [u64])
-    requires { ⌜ length (now costs) ≡ darts + (darts + darts) ⌝ }
-    ensures { λ r. ⌜ Table (darts + (darts + darts)) (costAt darts (now (prices .entry))) (now (costs .exit)) ⌝ }
-{
-    let mut a = 0;
-    while a < costs.len() {
-        costs[a] = cost_of(darts, prices, a);
-        a += 1;
+    let mut d = 0;
+    while d < darts {
+        let first = darts + d + d;
+        let second = first + 1;
+        let joint = is_joint(ends, degrees, darts, d);
+        lowers[first] = 1;
+        lowers[second] = 0;
+        uppers[first] = corner_most(joint, true);
+        uppers[second] = corner_most(joint, false);
+        costs[first] = 0;
+        costs[second] = 65536;
+        d += 1;
     }
 }
 
@@ -248,11 +224,10 @@ pub fn lay_network(
     let face = q.face;
     let sizes = q.sizes;
     let outer = posts + face[q.outer as usize] as usize;
-    fill_tails(posts, darts, &ends, &face, tails);
-    fill_heads(posts, darts, &face, heads);
-    fill_lowers(darts, lowers);
-    fill_uppers(darts, limits, &ends, &degrees, uppers);
-    fill_costs(darts, prices, costs);
+    fill_bend_ends(posts, darts, &face, tails, heads);
+    fill_bend_rates(darts, limits, prices, lowers, uppers, costs);
+    fill_corner_ends(posts, darts, &ends, &face, tails, heads);
+    fill_corner_rates(darts, &ends, &degrees, lowers, uppers, costs);
     fill_supplies(outer, supplies);
     fill_demands(posts, &sizes, outer, demands);
 }

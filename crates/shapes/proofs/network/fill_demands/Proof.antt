@@ -2,8 +2,8 @@
 use mathlib.Core.Path.{refl}
 use Prim.Native.Nat.{_-_}
 use lib.ListN.{length}
-use Rattle.shapes.specs.Entries.{demandAt}
-use Rattle.shapes.proofs.Filled.{Begun, begun-none, begun-more, begun-done}
+use Rattle.shapes.specs.Entries.{demandAt, Begun}
+use Rattle.shapes.proofs.Filled.{begun-none, begun-more, begun-done}
 use borrow.Author.Needs.{needs}
 use native.Mathlib.Omega.{arith}
 use Rattle.shapes.proofs.network.fill_demands.Statement.{statement}
@@ -16,7 +16,7 @@ abbrev μ-loop : tie.MeasureT-loop
 μ-loop posts sizes outer demands₀ v₀ demands v = length demands₀ - v
 
 loop-holds : tie.Need-loop-holds Inv-loop μ-loop
-loop-holds c = begun-none _
+loop-holds c = begun-none refl
 
 demand-of-requires : tie.Need-demand-of-requires Inv-loop μ-loop
 demand-of-requires c κs =
@@ -42,7 +42,7 @@ same-length : tie.Need-same-length Inv-loop μ-loop
 same-length c = c .before .loop .inv .size
 
 returns : tie.Need-returns Inv-loop μ-loop
-returns c = begun-done (c .before .loop .inv) (omega arith) refl
+returns c = begun-done (c .before .loop .inv) (omega arith)
 
 pub fill-demands-spec : {M : Type 1} → statement M
 fill-demands-spec =

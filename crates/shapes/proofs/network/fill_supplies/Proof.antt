@@ -2,8 +2,8 @@
 use mathlib.Core.Path.{refl}
 use Prim.Native.Nat.{_-_}
 use lib.ListN.{length}
-use Rattle.shapes.specs.Entries.{supplyAt}
-use Rattle.shapes.proofs.Filled.{Begun, begun-none, begun-more, begun-done}
+use Rattle.shapes.specs.Entries.{supplyAt, Begun}
+use Rattle.shapes.proofs.Filled.{begun-none, begun-more, begun-done}
 use borrow.Author.Needs.{needs}
 use native.Mathlib.Omega.{arith}
 use Rattle.shapes.proofs.network.fill_supplies.Statement.{statement}
@@ -16,7 +16,7 @@ abbrev μ-loop : tie.MeasureT-loop
 μ-loop outer supplies₀ v₀ supplies v = length supplies₀ - v
 
 loop-holds : tie.Need-loop-holds Inv-loop μ-loop
-loop-holds c = begun-none _
+loop-holds c = begun-none refl
 
 supply-of-requires : tie.Need-supply-of-requires Inv-loop μ-loop
 supply-of-requires c κs = search needs
@@ -40,7 +40,7 @@ same-length : tie.Need-same-length Inv-loop μ-loop
 same-length c = c .before .loop .inv .size
 
 returns : tie.Need-returns Inv-loop μ-loop
-returns c = begun-done (c .before .loop .inv) (omega arith) refl
+returns c = begun-done (c .before .loop .inv) (omega arith)
 
 pub fill-supplies-spec : {M : Type 1} → statement M
 fill-supplies-spec =
