@@ -24,3 +24,4 @@ pub mod ListingSaid
 pub mod P1
 pub mod Calls
 pub mod Loops
+pub mod Joints

@@ -12,5 +12,6 @@ pub mod Listing
 pub mod Answers
 pub mod Ordering
 pub mod Loops
+pub mod Joints
 pub mod Tried
 pub mod Books
