@@ -1,7 +1,7 @@
 -- The gap over the arcs that leave the reached nodes, and the raise by it.
-use mathlib.Core.Path.{_≡_, refl, sym, ap, _∙_, subst, subst₂}
+use mathlib.Core.Path.{_≡_, refl, sym, ap, _∙_, subst}
 use mathlib.Core.Logic.{_⊎_, inl, inr, ⊎-elim}
-use mathlib.Core.Bool.{Bool, true, false}
+use mathlib.Core.Bool.{true, false}
 use mathlib.Core.List.{List}
 use Prim.Native.Nat.{ℕ, _+_, _-_, _≤_, _<_}
 use native.Mathlib.Decide.{ℕ-discrete, decLt}
@@ -11,7 +11,7 @@ use borrow.Author.Count.{below-more as one-more}
 use native.Mathlib.Omega.{arith}
 use lib.ListN.{length, getD, set, length-set, List·getD-eq-default}
 use lib.Seq.{getD-set-same, getD-set-other}
-use Rattle.residual.specs.Residual.{Residual, Shaped, Within, nearEnds, tailOf, headOf, canUp, canDown, reached}
+use Rattle.residual.specs.Residual.{Residual, Shaped, Within, tailOf, headOf}
 use Rattle.residual.specs.Chains.{Movable, Chain}
 use Rattle.residual.specs.Prices.{Leaves, LeavesBy, LeavesFrom, Slack, Lesser, Closest, Gap, RaisedTo, Raised}
 use Rattle.residual.proofs.Chaining.{Downward, down-start, down-next}

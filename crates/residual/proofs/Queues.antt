@@ -9,7 +9,7 @@ use native.Mathlib.Omega.{arith}
 use borrow.Author.Count.{below-more}
 use lib.ListN.{length, getD, set, length-set}
 use lib.Seq.{getD-set-same, getD-set-other}
-use Rattle.residual.specs.Residual.{Residual, Within, Shaped, Opens, ShutAt, Fresh, Rooted, Searched, tailOf, headOf, reached}
+use Rattle.residual.specs.Residual.{Residual, Within, Shaped, Opens, Fresh, Rooted, Searched, tailOf, headOf, reached}
 use Rattle.residual.specs.Chains.{Movable, Chain, Lined}
 use Rattle.residual.specs.Searches.{Spent, SpentAt, Done, Standing, Underway, Grown, Further, Sought}
 use Rattle.residual.proofs.Passes.{kept, mark-left, unreached-set, ranked-reach, fresh-ranked}

@@ -6,7 +6,7 @@ use mathlib.Core.List.{List}
 use Prim.Native.Nat.{ℕ, _≤_, _<_}
 use native.Mathlib.Omega.{arith}
 use lib.ListN.{length, getD}
-use Rattle.residual.specs.Residual.{Residual, Tells, Shaped, nearEnds, farEnd, Roomy, Room, Even, OpenAt, Open, tight, reached}
+use Rattle.residual.specs.Residual.{Residual, Tells, Shaped, nearEnds, farEnd, Room, Even, OpenAt, Open, tight, reached}
 use Rattle.residual.specs.Searches.{Spent, Reach, Standing}
 use Rattle.residual.specs.Prices.{short, Fits, Sums, Slack}
 

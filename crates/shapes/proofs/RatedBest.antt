@@ -92,6 +92,3 @@ module _ (p : Plate) (f : Faultless p) (o : Ordered p) (ps : List ℕ) where
   some-meets =
       let u = shapeOf p (some-corners p f o) (some-units p f o) in
       (u, flow-shape p o (some-corners p f o) (some-units p f o) (some-flow p f o), unlimited (stripBends u))
-
-  pub never-none : Fair (rates [] ps) → NoFlow (ratedOf p (rates [] ps)) → ⊥
-  never-none fair none = let (u, m, k) = some-meets in no-shape p f o (rates [] ps) fair none u m k

@@ -14,7 +14,7 @@ use Rattle.embedding.specs.Plates.{Plate, darts}
 use Rattle.embedding.proofs.Degrees.{darts-few}
 use Rattle.shapes.specs.Shapes.{Shape, meets, rightsOf, total, shapeOf}
 use Rattle.shapes.specs.Claims.{Accepted, Best}
-use Rattle.shapes.specs.Rates.{Rates, rates, unrated, Fair, pairSums, keeps, BestBy, BestWithin, NoShape}
+use Rattle.shapes.specs.Rates.{Rates, unrated, Fair, pairSums, keeps, BestBy, NoShape}
 use Rattle.shapes.specs.NetworkOf.{networkOf, ratedOf}
 use Rattle.shapes.specs.BestOf.{ShapeHeld, BestHeld, Blank, Answers, Small, Taken, rightBends, anglesHeld}
 use Rattle.shapes.specs.declared.best.BestShape.{BestShape}
@@ -26,7 +26,7 @@ use Rattle.shapes.proofs.RatedSound.{excess-same}
 use Rattle.shapes.proofs.RatedOrder.{one-best-by}
 use Rattle.shapes.proofs.RatedBest.{some-meets}
 use Rattle.shapes.proofs.Bytes.{unit-most, total-fits}
-use Rattle.shapes.proofs.Unpriced.{within-by, by-best}
+use Rattle.shapes.proofs.Unpriced.{by-best}
 use Rattle.shapes.proofs.OneBest.{one-best}
 use Rattle.shapes.proofs.Accepted.{faultless, ordered, sound-by, least-is-best, cut-no-shape}
 
@@ -135,15 +135,7 @@ held-map p So Such f r h = record {
   angle-range = h .angle-range;
 }
 
--- without prices the answer is the best shape within the limits, or that there is none
-pub found-within : (p : Plate) (ls : List ℕ) (b : BestAnswer) → Answers p (rates ls []) b → Either (b .found) (ShapeHeld p (BestWithin p ls) (b .shape)) (NoShape p (rates ls []) × Blank (b .shape))
-found-within p ls b h = go (b .found) h
-  where
-    go : (f : Bool) → Either f (ShapeHeld p (BestBy p (rates ls [])) (b .shape)) (NoShape p (rates ls []) × Blank (b .shape)) → Either f (ShapeHeld p (BestWithin p ls) (b .shape)) (NoShape p (rates ls []) × Blank (b .shape))
-    go true s = held-map p (BestBy p (rates ls [])) (BestWithin p ls) (λ u k. within-by ls k) (b .shape) s
-    go false s = s
-
--- without limits either it is the best shape
+-- without limits and prices it is the best shape
 pub found-best : (p : Plate) → Accepted p → (b : BestAnswer) → Answers p unrated b → BestHeld p (b .shape)
 found-best p a b h =
     let (u, m, k) = some-meets p (faultless p a) (ordered p a) [] in

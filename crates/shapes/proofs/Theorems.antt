@@ -5,18 +5,19 @@ use mathlib.Core.List.{List, _++_}
 use mathlib.Core.Logic.{_↔_, _⊎_, inl, inr}
 use Prim.Native.Nat.{ℕ, zero, suc, _≤_, _<_, min}
 use native.Mathlib.Omega.{arith}
-use lib.ListN.{getD, take, drop}
+use lib.ListN.{length, getD, take, drop}
 use Rattle.finite.proofs.Tests.{not-both, not-true-false}
-use Rattle.flow.specs.Network.{Least, Either}
+use Rattle.flow.specs.Network.{Flow, Least, Either, costOf}
 use Rattle.embedding.specs.Plates.{Plate, darts, twin}
-use Rattle.shapes.specs.Shapes.{Shape, rights, lefts, nthW, meets, bends, rightsOf, shapeOf}
-use Rattle.shapes.specs.Claims.{Accepted, Best, Network}
+use Rattle.shapes.specs.Shapes.{Shape, rights, lefts, nthW, meets, bends, rightsOf, total, shapeOf}
+use Rattle.shapes.specs.Claims.{Accepted, Best, Network, isFlow}
 use Rattle.shapes.specs.Rates.{Rates, Fair, pairSums, price, BestBy, NoShape}
-use Rattle.shapes.specs.NetworkOf.{ratedOf}
+use Rattle.shapes.specs.NetworkOf.{networkOf, ratedOf}
 use Rattle.shapes.specs.BestOf.{BestHeld, ShapeHeld, Blank, Answers, anglesHeld, rightBends}
 use Rattle.shapes.specs.declared.best.BestAnswer.{BestAnswer}
 use Rattle.shapes.specs.declared.best.BestShape.{BestShape}
 use Rattle.shapes.proofs.Accepted as Accepted
+use Rattle.shapes.proofs.Flows.{flow-cost}
 use Rattle.shapes.proofs.Words.{rights-at}
 use Rattle.shapes.proofs.Meets.{meets-facts, lefts-at}
 use Rattle.shapes.proofs.Tamassia.{shape-flow, flow-shape, flow-bends}
@@ -33,6 +34,13 @@ module _ (p : Plate) (a : Accepted p) where
   -- a shape with k bends exists exactly when a flow of cost k does
   pub network : Network p
   network = Accepted.network p a
+
+  -- the flows of document 01's network, as lists of right bends and of angles, are the flows of its lists, and cost as much as they bend
+  pub plain-flows : (xs cs : List ℕ) → ((length xs ≡ darts p) × Flow (networkOf p) (xs ++ cs)) ↔ (isFlow p cs xs ≡ true)
+  plain-flows = Accepted.flows p a
+
+  pub plain-cost : (xs cs : List ℕ) → length xs ≡ darts p → costOf (networkOf p .costs) (xs ++ cs) ≡ total xs
+  plain-cost = flow-cost p (Accepted.ordered p a)
 
   -- what `best` gives depends on the plate alone
   pub plate-alone : (r s : BestShape) → BestHeld p r → BestHeld p s → r ≡ s

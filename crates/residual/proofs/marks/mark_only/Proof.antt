@@ -3,7 +3,6 @@ use mathlib.Core.Path.{_≡_, refl, _∙_}
 use Prim.Native.Nat.{ℕ, _-_, _≤_, _<_}
 use native.Mathlib.Omega.{arith}
 use lib.ListN.{length, getD, length-set}
-use lib.Seq.{getD-set-same, getD-set-other}
 use denote.Ref.{now}
 use Rattle.residual.proofs.Fills.{filled-more}
 use Rattle.residual.proofs.Sources.{only-single, only-lined}
