@@ -49,7 +49,8 @@ independent: cycle cancelling of the package tests, from bytes to bytes
 ";
 
 const LEMON_COLUMNS: &str = "\
-LEMON solve: network simplex on a graph that is already built, least bends only
+LEMON solve: network simplex on a graph that is already built, least bends and
+             cornered posts only
 LEMON build+solve: the same with the graph built from lists of arcs
 LEMON each arc: the first of the cheapest flows, with one solve for each arc
 LEMON each open arc: the same, but no solve for an arc that carries its least
