@@ -4,6 +4,7 @@ ghost use Prim.Native.Nat.{_%_, _≤_};
 ghost use lib.ListN.{length};
 use embedding::read_plate;
 use libc::STDOUT_FILENO;
+use shapes::best::BestShape;
 use shapes::best::best;
 use shapes::best::best_by;
 use shapes::judge::judge;
@@ -22,7 +23,20 @@ fn show_counts(word: &[u8], darts: usize, counts: [u8; 256])
     }
 }
 
-// Writes a line: the label, the bends, the right bends and the angles by dart.
+// Writes the bends, the right bends and the angles by dart, and ends the line.
+fn show_shape(darts: usize, s: BestShape)
+    requires { ⌜ darts ≤ 256 ⌝ }
+{
+    let rights = s.rights;
+    let angles = s.angles;
+    io::write_all(STDOUT_FILENO, b" bends ");
+    io::print_decimal(STDOUT_FILENO, s.total as u64);
+    show_counts(b" rights", darts, rights);
+    show_counts(b" angles", darts, angles);
+    io::write_all(STDOUT_FILENO, b"\n");
+}
+
+// Writes a line: the label and the best shape.
 fn show(label: &[u8], posts: u8, ends: &[u8], order: &[u8], outer: u8)
     requires { ⌜ (length (now ends) ≤ 256) × (length (now ends) % 2 ≡ 0) × (length (now order) ≤ 256) ⌝ }
 {
@@ -32,17 +46,10 @@ fn show(label: &[u8], posts: u8, ends: &[u8], order: &[u8], outer: u8)
         io::write_all(STDOUT_FILENO, b" refused\n");
         return;
     }
-    let s = best(r.plate);
-    let rights = s.rights;
-    let angles = s.angles;
-    io::write_all(STDOUT_FILENO, b" bends ");
-    io::print_decimal(STDOUT_FILENO, s.total as u64);
-    show_counts(b" rights", ends.len(), rights);
-    show_counts(b" angles", ends.len(), angles);
-    io::write_all(STDOUT_FILENO, b"\n");
+    show_shape(ends.len(), best(r.plate));
 }
 
-// Writes a line: the label, and the bends, the right bends and the angles by dart of the best shape within limits and by prices.
+// Writes a line: the label and the best shape within limits and by prices.
 fn show_by(
     label: &[u8],
     posts: u8,
@@ -69,14 +76,7 @@ fn show_by(
         io::write_all(STDOUT_FILENO, b" no shape\n");
         return;
     }
-    let s = a.shape;
-    let rights = s.rights;
-    let angles = s.angles;
-    io::write_all(STDOUT_FILENO, b" bends ");
-    io::print_decimal(STDOUT_FILENO, s.total as u64);
-    show_counts(b" rights", ends.len(), rights);
-    show_counts(b" angles", ends.len(), angles);
-    io::write_all(STDOUT_FILENO, b"\n");
+    show_shape(ends.len(), a.shape);
 }
 
 // P1 within limits and by prices.

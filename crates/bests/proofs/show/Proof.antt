@@ -24,35 +24,8 @@ returns c = search needs
 best-requires : tie.Need-best-requires
 best-requires c κs = (plate (c .before .before .before .before .before .before .before .args .posts) (c .before .before .before .before .before .before .before .args .ends .now) (c .before .before .before .before .before .before .before .args .order .now) (c .before .before .before .before .before .before .before .args .outer), read-stands _ _ (c .before .before .read-plate .ensures) (omega (arith, c .if1 .left)), record { no-fault = read-faultless _ _ (c .before .before .read-plate .ensures) (omega (arith, c .if1 .left)); even-darts = c .before .before .before .before .before .before .before .pre .1 })
 
-slice-aggregate-write-all-2 : tie.Need-slice-aggregate-write-all-2
-slice-aggregate-write-all-2 c = search needs
-
-write-all-requires-3 : tie.Need-write-all-requires-3
-write-all-requires-3 c κs = search needs
-
-cast-print-decimal : tie.Need-cast-print-decimal
-cast-print-decimal c = search needs
-
-print-decimal-requires : tie.Need-print-decimal-requires
-print-decimal-requires c κs = search needs
-
-slice-aggregate-show-counts : tie.Need-slice-aggregate-show-counts
-slice-aggregate-show-counts c = search needs
-
-show-counts-requires : tie.Need-show-counts-requires
-show-counts-requires c κs = search needs
-
-slice-aggregate-show-counts-2 : tie.Need-slice-aggregate-show-counts-2
-slice-aggregate-show-counts-2 c = search needs
-
-show-counts-requires-2 : tie.Need-show-counts-requires-2
-show-counts-requires-2 c κs = search needs
-
-slice-aggregate-write-all-3 : tie.Need-slice-aggregate-write-all-3
-slice-aggregate-write-all-3 c = search needs
-
-write-all-requires-4 : tie.Need-write-all-requires-4
-write-all-requires-4 c κs = search needs
+show-shape-requires : tie.Need-show-shape-requires
+show-shape-requires c κs = search needs
 
 returns-2 : tie.Need-returns-2
 returns-2 c = search needs
@@ -67,14 +40,5 @@ show-spec =
     write-all-requires-2
     returns
     best-requires
-    slice-aggregate-write-all-2
-    write-all-requires-3
-    cast-print-decimal
-    print-decimal-requires
-    slice-aggregate-show-counts
-    show-counts-requires
-    slice-aggregate-show-counts-2
-    show-counts-requires-2
-    slice-aggregate-write-all-3
-    write-all-requires-4
+    show-shape-requires
     returns-2)

@@ -55,35 +55,8 @@ write-all-requires-4 c κs = search needs
 returns-3 : tie.Need-returns-3
 returns-3 c = search needs
 
-slice-aggregate-write-all-4 : tie.Need-slice-aggregate-write-all-4
-slice-aggregate-write-all-4 c = search needs
-
-write-all-requires-5 : tie.Need-write-all-requires-5
-write-all-requires-5 c κs = search needs
-
-cast-print-decimal : tie.Need-cast-print-decimal
-cast-print-decimal c = search needs
-
-print-decimal-requires : tie.Need-print-decimal-requires
-print-decimal-requires c κs = search needs
-
-slice-aggregate-show-counts : tie.Need-slice-aggregate-show-counts
-slice-aggregate-show-counts c = search needs
-
-show-counts-requires : tie.Need-show-counts-requires
-show-counts-requires c κs = c .before .before .before .before .before .before .before .before .before .before .before .before .before .before .before .before .before .before .before .before .before .before .pre .0
-
-slice-aggregate-show-counts-2 : tie.Need-slice-aggregate-show-counts-2
-slice-aggregate-show-counts-2 c = search needs
-
-show-counts-requires-2 : tie.Need-show-counts-requires-2
-show-counts-requires-2 c κs = c .before .before .before .before .before .before .before .before .before .before .before .before .before .before .before .before .before .before .before .before .before .before .before .before .pre .0
-
-slice-aggregate-write-all-5 : tie.Need-slice-aggregate-write-all-5
-slice-aggregate-write-all-5 c = search needs
-
-write-all-requires-6 : tie.Need-write-all-requires-6
-write-all-requires-6 c κs = search needs
+show-shape-requires : tie.Need-show-shape-requires
+show-shape-requires c κs = search needs
 
 returns-4 : tie.Need-returns-4
 returns-4 c = search needs
@@ -105,14 +78,5 @@ show-by-spec =
     slice-aggregate-write-all-3
     write-all-requires-4
     returns-3
-    slice-aggregate-write-all-4
-    write-all-requires-5
-    cast-print-decimal
-    print-decimal-requires
-    slice-aggregate-show-counts
-    show-counts-requires
-    slice-aggregate-show-counts-2
-    show-counts-requires-2
-    slice-aggregate-write-all-5
-    write-all-requires-6
+    show-shape-requires
     returns-4)
