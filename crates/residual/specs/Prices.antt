@@ -28,7 +28,7 @@ Sums r = (a : ℕ) → a < length (r .tails) → over r a < 2 ^ 64
 abbrev pub Leaves : Residual → List ℕ → ℕ → ℕ → Type 0
 Leaves r dist a s = (UpBy r dist a (tailOf r a) (headOf r a) × (over r a ≡ there r a + s)) ⊎ (DownBy r dist a (tailOf r a) (headOf r a) × (there r a ≡ over r a + s))
 
--- what a step on, or back, adds to a potential; how short of nothing its cost is
+-- for a step on, or back: the cost of its arc and the potential of the arc's tail fit together; how short of nothing the step's cost is
 abbrev pub Fits : Bool → ℕ → ℕ → ℕ → Type 0
 Fits true cost near far = cost + near < 2 ^ 64
 Fits false cost near far = cost + far < 2 ^ 64
@@ -48,7 +48,7 @@ pub record Lesser (m n r : ℕ) : Type 0 where
   pub first : 0 < m → (0 < r) × (r ≤ m)
   pub second : 0 < n → (0 < r) × (r ≤ n)
 
--- so does an arc at which a step on, or back, from u begins; and one that a step from u leads along
+-- arc a leaves the reached nodes, s short of tight, and has u for the end where a step on, or back, begins; or it leaves them by a step from u
 abbrev pub LeavesBy : Residual → List ℕ → Bool → ℕ → ℕ → ℕ → Type 0
 LeavesBy r dist on u a s = (getD (nearEnds on r) a 0 ≡ u) × Leaves r dist a s
 

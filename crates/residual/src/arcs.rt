@@ -1,4 +1,4 @@
-//! Tests on one arc.
+//! Tests on one arc, and where a step along it leads.
 ghost use mathlib.Core.Path.{_≡_};
 ghost use Prim.Native.Nat.{ℕ, _+_, _<_};
 ghost use lib.ListN.{length, getD};
