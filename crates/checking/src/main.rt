@@ -21,7 +21,7 @@ fn show(list: &[u8], shape: &[u8]) {
     }
 }
 
-// Of a longer file only the first 4,096 bytes are read. No accepted list is longer than 614 bytes and no
+// Of a longer file only the first 4,096 bytes are read. No accepted list is longer than 745 bytes and no
 // sound shape longer than 611, so such a file is refused, by the number that the whole has (`Files.front`).
 fn check_files(list_file: i32, shape_file: i32) {
     let mut list = io::buffer();

@@ -2,7 +2,7 @@
 use mathlib.Core.Path.{_≡_, refl, sym, ap, subst, _∙_}
 use mathlib.Core.Bool.{Bool, true, false, _&&_, _||_, not}
 use mathlib.Core.List.{List, _∷_}
-use Prim.Native.Nat.{ℕ, zero, suc, _+_, _<_}
+use Prim.Native.Nat.{ℕ, zero, suc, _+_, _≤_, _<_}
 use native.Mathlib.Omega.{arith}
 use borrow.Author.Tests.{eq-eqb}
 use lib.Dec.{eqb, ltb, leb}
@@ -43,20 +43,20 @@ without-fourth zero zero zero d false n = refl
 pub same-fault : (p : Plate) → (plateFaultBefore p ≡ 10 → ⊥) → plateFault p ≡ plateFaultBefore p
 same-fault p = without-fourth (when (eqb (p .posts) 0 || ltb 64 (p .posts)) 7) (when (eqb (darts p) 0) 8) (when (not (allBelow (p .posts) (p .ends))) 9) _ (someLoop (p .ends))
 
--- 10 is not given
-pub never-ten : (p : Plate) → plateFault p ≡ 10 → ⊥
-never-ten p =
-    fault (eqb (p .posts) 0 || ltb 64 (p .posts)) 7 (λ e. omega arith)
-    (fault (eqb (darts p) 0) 8 (λ e. omega arith)
-    (fault (not (allBelow (p .posts) (p .ends))) 9 (λ e. omega arith)
-    (fault (overFour (p .posts) 0 p) 11 (λ e. omega arith)
-    (fault (not (eqb (length (p .order)) (darts p) && partsOk (p .posts) 0 p)) 12 (λ e. omega arith)
-    (fault (leb (darts p) (p .outer)) 13 (λ e. omega arith)
-    (fault (not (connected p)) 14 (λ e. omega arith)
-    (when-of other (λ e. omega arith) (not (isPlane p)) 15 (λ e. omega arith))))))))
+-- a plate is refused with 7 to 15 but 10: what holds of these numbers and of 0 holds of its fault
+pub plate-number : (P : ℕ → Type 0) → ((n : ℕ) → n ≤ 15 → (n ≡ 10 → ⊥) → P n) → (p : Plate) → P (plateFault p)
+plate-number P few p =
+    fault (eqb (p .posts) 0 || ltb 64 (p .posts)) 7 (few 7 (omega arith) (λ e. omega arith))
+    (fault (eqb (darts p) 0) 8 (few 8 (omega arith) (λ e. omega arith))
+    (fault (not (allBelow (p .posts) (p .ends))) 9 (few 9 (omega arith) (λ e. omega arith))
+    (fault (overFour (p .posts) 0 p) 11 (few 11 (omega arith) (λ e. omega arith))
+    (fault (not (eqb (length (p .order)) (darts p) && partsOk (p .posts) 0 p)) 12 (few 12 (omega arith) (λ e. omega arith))
+    (fault (leb (darts p) (p .outer)) 13 (few 13 (omega arith) (λ e. omega arith))
+    (fault (not (connected p)) 14 (few 14 (omega arith) (λ e. omega arith))
+    (when-of P none (not (isPlane p)) 15 (few 15 (omega arith) (λ e. omega arith)))))))))
   where
-    other : ℕ → Type 0
-    other n = n ≡ 10 → ⊥
+    none : P 0
+    none = few 0 (omega arith) (λ e. omega arith)
 
-    fault : (t : Bool) (n : ℕ) {r : ℕ} → other n → other r → other (firstOf (when t n) r)
-    fault = fault-of other (λ e. omega arith)
+    fault : (t : Bool) (n : ℕ) {r : ℕ} → P n → P r → P (firstOf (when t n) r)
+    fault = fault-of P none

@@ -13,7 +13,7 @@ use Rattle.fields.specs.declared.Rule.{Rule}
 use Rattle.fields.specs.declared.Rule.the-variants.{Exactly, EvenUpTo, UpTo, NoTag}
 
 -- to show P at t, show it at a, and where t is another number
-at-or : (P : ℕ → Type 0) (a t : ℕ) → P a → ((t ≡ a → ⊥) → P t) → P t
+pub at-or : (P : ℕ → Type 0) (a t : ℕ) → P a → ((t ≡ a → ⊥) → P t) → P t
 at-or P a t here other = go (eqb t a) refl
   where
     go : (b : Bool) → eqb t a ≡ b → P t
@@ -37,6 +37,13 @@ pub record Agrees (k : Bool) (t : ℕ) : Type 0 where
 no-tag : (k : Bool) (t : ℕ) → ruleOf k t ≡ NoTag → tagOk k t ≡ false → Agrees k t
 no-tag k t r f = record { tag = rw (r, f); long = λ n e. absurd (subst T (sym e ∙ f) tt) }
 
+-- the tags of a list left out, in two steps
+pub above-four : (t : ℕ) → (t ≡ 1 → ⊥) → (t ≡ 2 → ⊥) → (t ≡ 3 → ⊥) → (t ≡ 4 → ⊥) → 1 ≤ t → 5 ≤ t
+above-four t n1 n2 n3 n4 l = omega arith
+
+five-to-seven : (t : ℕ) → (t ≡ 5 → ⊥) → (t ≡ 6 → ⊥) → (t ≡ 7 → ⊥) → 5 ≤ t → t ≤ 7 → ⊥
+five-to-seven t n5 n6 n7 l h = omega arith
+
 pub agrees : (k : Bool) (t : ℕ) → Agrees k t
 agrees false t =
     at-or (Agrees false) 1 t (record { tag = refl; long = λ n e. refl }) λ n1.
@@ -45,9 +52,10 @@ agrees false t =
     at-or (Agrees false) 4 t (record { tag = refl; long = λ n e. refl }) λ n4.
     at-or (Agrees false) 5 t (record { tag = refl; long = λ n e. refl }) λ n5.
     at-or (Agrees false) 6 t (record { tag = refl; long = λ n e. refl }) λ n6.
+    at-or (Agrees false) 7 t (record { tag = refl; long = λ n e. refl }) λ n7.
     no-tag false t
-    (simp (ne-eqb t 1 n1, ne-eqb t 2 n2, ne-eqb t 3 n3, ne-eqb t 4 n4, ne-eqb t 5 n5, ne-eqb t 6 n6))
-    (outside 1 6 t (omega arith))
+    (simp (ne-eqb t 1 n1, ne-eqb t 2 n2, ne-eqb t 3 n3, ne-eqb t 4 n4, ne-eqb t 5 n5, ne-eqb t 6 n6, ne-eqb t 7 n7))
+    (outside 1 7 t (λ l h. five-to-seven t n5 n6 n7 (above-four t n1 n2 n3 n4 l) h))
 agrees true t =
     at-or (Agrees true) 17 t (record { tag = refl; long = λ n e. refl }) λ n17.
     at-or (Agrees true) 18 t (record { tag = refl; long = λ n e. refl }) λ n18.
@@ -74,14 +82,14 @@ rule-is k t r e =
     }
 
 -- a tag of a file stands in the file's range
-pub tag-from : (k : Bool) (t : ℕ) → tagOk k t ≡ true → (firstTag k ≤ t) × (t < firstTag k + 6)
+pub tag-from : (k : Bool) (t : ℕ) → tagOk k t ≡ true → (firstTag k ≤ t) × (t < firstTag k + 7)
 tag-from true t e =
     let (a, b) = and-parts (leb 17 t) (leb t 21) e in
     let l : 17 ≤ t = leb-true 17 t a in
     let h : t ≤ 21 = leb-true t 21 b in
     omega arith
 tag-from false t e =
-    let (a, b) = and-parts (leb 1 t) (leb t 6) e in
+    let (a, b) = and-parts (leb 1 t) (leb t 7) e in
     let l : 1 ≤ t = leb-true 1 t a in
-    let h : t ≤ 6 = leb-true t 6 b in
+    let h : t ≤ 7 = leb-true t 7 b in
     omega arith

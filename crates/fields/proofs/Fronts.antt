@@ -1,4 +1,4 @@
--- A walk ends within the room that the fields of a file may take, and one head more: the first 617 bytes of a file have the number of the whole.
+-- A walk ends within the room that the fields of a file may take, and one head more: the first 748 bytes of a file have the number of the whole.
 -- Assumes nothing.
 use mathlib.Core.Path.{_≡_, refl, sym, ap, ap₂, subst, _∙_}
 use mathlib.Core.Bool.{Bool, true, false, _&&_, not}
@@ -22,7 +22,7 @@ drop-front : {A : Type 0} (m j : ℕ) (l : List A) → m ≤ length l → drop m
 drop-front m j l h = ap (drop m) (take-add m j l) ∙ drop-at (take m l) (take j (drop m l)) m (length-take-le m l h)
 
 -- the first n bytes of a longer file, with room for the fields to come and one head
-module _ (o k : Bool) (fs : List Field) (s : List ℕ) (n : ℕ) (enough : room 6 k fs + 3 ≤ n) (more : n < length s) where
+module _ (o k : Bool) (fs : List Field) (s : List ℕ) (n : ℕ) (enough : room 7 k fs + 3 ≤ n) (more : n < length s) where
   abbrev t : ℕ
   t = getD s 0 0
 
@@ -83,7 +83,7 @@ module _ (o k : Bool) (fs : List Field) (s : List ℕ) (n : ℕ) (enough : room 
         let e : 3 + h + (n - (3 + h)) ≡ n = omega arith in
         ap (λ (x : ℕ). drop (3 + x) (take n s)) same-head ∙ ap (λ (x : ℕ). drop (3 + h) (take x s)) (sym e) ∙ drop-front (3 + h) (n - (3 + h)) s (omega arith)
 
-front-from : (o k : Bool) (i l : ℕ) (fs : List Field) (s : List ℕ) (n : ℕ) → n < i → length s < l → room 6 k fs + 3 ≤ n → n < length s → fieldsBy o i k fs (take n s) .number ≡ fieldsBy o l k fs s .number
+front-from : (o k : Bool) (i l : ℕ) (fs : List Field) (s : List ℕ) (n : ℕ) → n < i → length s < l → room 7 k fs + 3 ≤ n → n < length s → fieldsBy o i k fs (take n s) .number ≡ fieldsBy o l k fs s .number
 front-from o k zero l fs s n a b enough more = absurd (omega arith)
 front-from o k (suc i) zero fs s n a b enough more = absurd (omega arith)
 front-from o k (suc i) (suc l) fs s n a b enough more =
@@ -99,7 +99,7 @@ front-from o k (suc i) (suc l) fs s n a b enough more =
     same = same-fault o k fs s n enough more
 
     go : (b : Bool) → eqb (faultBy o k fs s) 0 ≡ b
-        → (n - (3 + headLong s) < i → length (drop (3 + headLong s) s) < l → room 6 k (addField fs (fieldAt s)) + 3 ≤ n - (3 + headLong s) → n - (3 + headLong s) < length (drop (3 + headLong s) s)
+        → (n - (3 + headLong s) < i → length (drop (3 + headLong s) s) < l → room 7 k (addField fs (fieldAt s)) + 3 ≤ n - (3 + headLong s) → n - (3 + headLong s) < length (drop (3 + headLong s) s)
         → fieldsBy o i k (addField fs (fieldAt s)) (take (n - (3 + headLong s)) (drop (3 + headLong s) s)) .number ≡ fieldsBy o l k (addField fs (fieldAt s)) (drop (3 + headLong s) s) .number)
         → fieldsBy o (suc i) k fs (take n s) .number ≡ fieldsBy o (suc l) k fs s .number
     go false q ih =
@@ -114,11 +114,11 @@ front-from o k (suc i) (suc l) fs s n a b enough more =
         ∙ ih (omega arith) (omega arith) (omega arith) (omega arith)
         ∙ sym (ap number (from-met o l k fs s left q))
 
-none-room : (k : Bool) → room 6 k [] ≤ 614
+none-room : (k : Bool) → room 7 k [] ≤ 745
 none-room true = omega arith
 none-room false = omega arith
 
-pub walk-front : (o k : Bool) (n : ℕ) (s : List ℕ) → 617 ≤ n → walkBy o k (take n s) .number ≡ walkBy o k s .number
+pub walk-front : (o k : Bool) (n : ℕ) (s : List ℕ) → 748 ≤ n → walkBy o k (take n s) .number ≡ walkBy o k s .number
 walk-front o k n s m = go (ltb n (length s)) refl
   where
     go : (b : Bool) → ltb n (length s) ≡ b → walkBy o k (take n s) .number ≡ walkBy o k s .number

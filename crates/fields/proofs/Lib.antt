@@ -14,6 +14,7 @@ pub mod Ascent
 pub mod Rising
 pub mod RunBytes
 pub mod Sorted
+pub mod SixTags
 pub mod Slots
 pub mod Only
 pub mod Puts

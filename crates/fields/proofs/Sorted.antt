@@ -63,18 +63,18 @@ first-positive false = omega arith
 
 module _ (k : Bool) (fs : List Field) (tags : TagsOk k fs) where
   -- a tag that the file may not have is not there
-  outside : (u : ℕ) → (firstTag k ≤ u → u < firstTag k + 6 → ⊥) → hasTag u fs ≡ false
+  outside : (u : ℕ) → (firstTag k ≤ u → u < firstTag k + 7 → ⊥) → hasTag u fs ≡ false
   outside u out = not-true-false (hasTag u fs) (λ h. let b = tag-from k u (tags u h) in out (b .0) (b .1))
 
   same-at : (u : ℕ) → SameAt u (sorted k fs) fs
-  same-at u = go (leb (firstTag k) u) refl (ltb u (firstTag k + 6)) refl
+  same-at u = go (leb (firstTag k) u) refl (ltb u (firstTag k + 7)) refl
     where
-      other : (firstTag k ≤ u → u < firstTag k + 6 → ⊥) → SameAt u (sorted k fs) fs
-      other out = absent-same u (sorted k fs) fs (rising-other 6 (firstTag k) fs u out) (outside u out)
+      other : (firstTag k ≤ u → u < firstTag k + 7 → ⊥) → SameAt u (sorted k fs) fs
+      other out = absent-same u (sorted k fs) fs (rising-other 7 (firstTag k) fs u out) (outside u out)
 
-      go : (a : Bool) → leb (firstTag k) u ≡ a → (b : Bool) → ltb u (firstTag k + 6) ≡ b → SameAt u (sorted k fs) fs
-      go true p true q = rising-at 6 (firstTag k) fs u (leb-true (firstTag k) u p) (ltb-true u (firstTag k + 6) q)
-      go true p false q = let h = ltb-false u (firstTag k + 6) q in other (λ a b. omega arith)
+      go : (a : Bool) → leb (firstTag k) u ≡ a → (b : Bool) → ltb u (firstTag k + 7) ≡ b → SameAt u (sorted k fs) fs
+      go true p true q = rising-at 7 (firstTag k) fs u (leb-true (firstTag k) u p) (ltb-true u (firstTag k + 7) q)
+      go true p false q = let h = ltb-false u (firstTag k + 7) q in other (λ a b. omega arith)
       go false p b q = let h = leb-false (firstTag k) u p in other (λ a b. omega arith)
 
   sorted-same : SameFields (sorted k fs) fs
@@ -94,7 +94,7 @@ module _ {o k : Bool} where
       omega (
         arith,
         sorted-more (addField fs (fieldAt s)) (drop (3 + headLong s) s) more r,
-        rising-add fs (fieldAt s) (p .new) 6 (firstTag k) (b .0) (b .1),
+        rising-add fs (fieldAt s) (p .new) 7 (firstTag k) (b .0) (b .1),
         bytes-cons-long (fieldAt s) more,
       )
 
@@ -102,7 +102,7 @@ module _ {o k : Bool} where
   sorted-long s more r =
       let e : addAll [] more ≡ more = all-append [] more in
       let a : length (bytesIn (sorted k more)) ≡ length (bytesIn (sorted k (addAll [] more))) = ap (λ (x : List Field). length (bytesIn (sorted k x))) (sym e) in
-      let n : length (bytesIn (sorted k [])) ≡ 0 = ap (λ (x : List Field). length (bytesIn x)) (rising-none 6 (firstTag k)) in
+      let n : length (bytesIn (sorted k [])) ≡ 0 = ap (λ (x : List Field). length (bytesIn x)) (rising-none 7 (firstTag k)) in
       omega (arith, a, n, sorted-more [] s more r, run-long [] s more r)
 
 -- ---- which file it is shows in the first byte
@@ -112,7 +112,7 @@ none-there false h = not-both h refl
 
 kind-by : (k : Bool) (t : ℕ) → tagOk k t ≡ true → leb 16 t ≡ k
 kind-by true t o = let b = tag-from true t o in le-leb 16 t (omega arith)
-kind-by false t o = let l : t ≤ 6 = leb-true t 6 (and-right (leb 1 t) (leb t 6) o) in lt-leb 16 t (omega arith)
+kind-by false t o = let l : t ≤ 7 = leb-true t 7 (and-right (leb 1 t) (leb t 7) o) in lt-leb 16 t (omega arith)
 
 pub kind-of : (o k : Bool) (s : List ℕ) → walkBy o k s .number ≡ 0 → isShapeFile s ≡ k
 kind-of o k s e = let w = whole-of o k s e in go (w .more) (w .run) (w .there)
@@ -137,8 +137,8 @@ raised k p q (f ∷ fs) tags a =
 sorted-fixed : (k : Bool) (fs : List Field) → TagsOk k fs → ascends 0 fs ≡ true → sorted k fs ≡ fs
 sorted-fixed k fs tags a =
     let (p, q) = before-first k in
-    let below : (u : ℕ) → hasTag u fs ≡ true → u < suc p + 6 = λ u h. let b = tag-from k u (tags u h) in omega arith in
-    subst (λ (t : ℕ). rising 6 t fs ≡ fs) q (rising-fixed 6 p fs (raised k p q fs tags a) below)
+    let below : (u : ℕ) → hasTag u fs ≡ true → u < suc p + 7 = λ u h. let b = tag-from k u (tags u h) in omega arith in
+    subst (λ (t : ℕ). rising 7 t fs ≡ fs) q (rising-fixed 7 p fs (raised k p q fs tags a) below)
 
 -- ---- what holds of both walks
 module _ (k : Bool) (s : List ℕ) where
@@ -200,13 +200,13 @@ module _ (k : Bool) (s : List ℕ) where
 
     sorted-walked : walkAll k (bytesIn (sorted k fs)) ≡ walk 0 (sorted k fs)
     sorted-walked =
-        run-answer true k (bytesIn (sorted k fs)) (sorted k fs) (run-rising k fs (all-tags false k s) (all-laid false k s) 6 (firstTag k) [] (first-positive k) (λ u l. refl)) sorted-there
+        run-answer true k (bytesIn (sorted k fs)) (sorted k fs) (run-rising k fs (all-tags false k s) (all-laid false k s) 7 (firstTag k) [] (first-positive k) (λ u l. refl)) sorted-there
 
     pub sorted-size : length (bytesIn (sorted k fs)) ≡ length s
     sorted-size = ap (λ (x : List Field). length (bytesIn (sorted k x))) (fields-of false v) ∙ sorted-long s (v .more) (v .run)
 
     sorted-rises : ascends 0 (sorted k fs) ≡ true
-    sorted-rises = rising-up 6 (firstTag k) fs 0 (first-positive k)
+    sorted-rises = rising-up 7 (firstTag k) fs 0 (first-positive k)
 
 older-taken : (s : List ℕ) → oldWalk (isShapeFile s) s .number ≡ 0 → Taken s
 older-taken s e =
@@ -221,12 +221,12 @@ older-taken s e =
 one-file : (k : Bool) (s t : List ℕ) → allBytes s ≡ true → allBytes t ≡ true → walkAll k s .number ≡ 0 → walkAll k t .number ≡ 0 → SameFields (walkAll k s .fields) (walkAll k t .fields) → s ≡ t
 one-file k s t a b e g f =
     sym (bytes-of k s e a)
-    ∙ ap bytesIn (rising-same 6 (firstTag k) (walkAll k s .fields) (walkAll k t .fields) (λ u l. f .there u) (λ u l. f .content u))
+    ∙ ap bytesIn (rising-same 7 (firstTag k) (walkAll k s .fields) (walkAll k t .fields) (λ u l. f .there u) (λ u l. f .content u))
     ∙ bytes-of k t g b
 
 same-out : (s t : List ℕ) → isShapeFile s ≡ isShapeFile t → SameFields (oldWalk (isShapeFile s) s .fields) (oldWalk (isShapeFile t) t .fields) → orderedBytes s ≡ orderedBytes t
 same-out s t i f =
-    ap bytesIn (rising-same 6 (firstTag (isShapeFile s)) (oldWalk (isShapeFile s) s .fields) (oldWalk (isShapeFile t) t .fields) (λ u l. f .there u) (λ u l. f .content u))
+    ap bytesIn (rising-same 7 (firstTag (isShapeFile s)) (oldWalk (isShapeFile s) s .fields) (oldWalk (isShapeFile t) t .fields) (λ u l. f .there u) (λ u l. f .content u))
     ∙ ap (λ (k : Bool). bytesIn (sorted k (oldWalk (isShapeFile t) t .fields))) i
 
 pub tag-order : Tag-order

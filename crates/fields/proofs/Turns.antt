@@ -10,17 +10,28 @@ use lib.Seq.{length-take-le}
 use borrow.Author.Tests.{ltb-false, le-ltb, not-false}
 use Rattle.finite.specs.Base.{pick, when}
 use Rattle.finite.proofs.Tests.{first-none, when-none, first-of, when-of, fault-of}
-use Rattle.fields.specs.Files.{Field, Walk, walk, hasTag, tagOk, longOk, addField, lastTag, allThere, headLong, faultWhere, faultBy, fieldAt, fieldsBy, walkBy, oldWalk}
+use Rattle.fields.specs.Files.{Field, Walk, walk, hasTag, tagOk, longOk, addField, lastTag, allThere, headLong, faultWhere, faultBy, fieldAt, fieldsWith, fieldsBy, walkBy, oldWalk}
+
+-- by any fault of a field
+module _ (fault : List Field → List ℕ → ℕ) (l : ℕ) (k : Bool) (fs : List Field) (r : List ℕ) where
+  pub with-end : eqb (length r) 0 ≡ true → fieldsWith fault (suc l) k fs r ≡ walk (when (not (allThere k fs)) 6) fs
+  with-end e = rw (e, fieldsWith)
+
+  pub with-fault : eqb (length r) 0 ≡ false → eqb (fault fs r) 0 ≡ false → fieldsWith fault (suc l) k fs r ≡ walk (fault fs r) []
+  with-fault e f = rw (e, f, fieldsWith)
+
+  pub with-met : eqb (length r) 0 ≡ false → eqb (fault fs r) 0 ≡ true → fieldsWith fault (suc l) k fs r ≡ fieldsWith fault l k (addField fs (fieldAt r)) (drop (3 + headLong r) r)
+  with-met e f = rw (e, f, fieldsWith)
 
 module _ (o : Bool) (l : ℕ) (k : Bool) (fs : List Field) (r : List ℕ) where
   pub from-end : eqb (length r) 0 ≡ true → fieldsBy o (suc l) k fs r ≡ walk (when (not (allThere k fs)) 6) fs
-  from-end e = rw (e, fieldsBy)
+  from-end = with-end (faultBy o k) l k fs r
 
   pub from-fault : eqb (length r) 0 ≡ false → eqb (faultBy o k fs r) 0 ≡ false → fieldsBy o (suc l) k fs r ≡ walk (faultBy o k fs r) []
-  from-fault e f = rw (e, f, fieldsBy)
+  from-fault = with-fault (faultBy o k) l k fs r
 
   pub from-met : eqb (length r) 0 ≡ false → eqb (faultBy o k fs r) 0 ≡ true → fieldsBy o (suc l) k fs r ≡ fieldsBy o l k (addField fs (fieldAt r)) (drop (3 + headLong r) r)
-  from-met e f = rw (e, f, fieldsBy)
+  from-met = with-met (faultBy o k) l k fs r
 
 -- ---- the flag that a slot gives in place of `hasTag`
 pub fault-same : (k : Bool) (a b c : Bool) (r : List ℕ) → (tagOk k (getD r 0 0) ≡ true → a ≡ b) → faultWhere k a c r ≡ faultWhere k b c r

@@ -6,9 +6,9 @@ use lib.Dec.{eqb, ltb, leb}
 use lib.ListN.{length, getD, take, drop}
 use Rattle.finite.specs.Base.{pick, firstOf, when}
 
--- which tags a file has, and their lengths; the remark's is 6 in a list, 15 hexadecimal in a shape
+-- which tags a file has, and their lengths; the remark's is 6 in a list, 15 hexadecimal in a shape; 7 are the limits of bends, a byte a strip
 abbrev pub tagOk : Bool → ℕ → Bool
-tagOk isShape t = pick isShape (leb 17 t && leb t 21) (leb 1 t && leb t 6)
+tagOk isShape t = pick isShape (leb 17 t && leb t 21) (leb 1 t && leb t 7)
 
 abbrev pub longOk : Bool → ℕ → ℕ → Bool
 longOk isShape t n =
@@ -18,7 +18,8 @@ longOk isShape t n =
     (pick (eqb t 1) (eqb n 2)
     (pick (eqb t 2 || eqb t 5) (eqb n 1)
     (pick (eqb t 3) (leb n 256 && eqb (n % 2) 0)
-    (pick (eqb t 4) (leb n 256) (leb n 80)))))
+    (pick (eqb t 4) (leb n 256)
+    (pick (eqb t 6) (leb n 80) (leb n 128))))))
 
 -- a field met: its tag and content
 pub record Field : Type 0 where
@@ -83,18 +84,21 @@ fieldFault isShape fs s = faultBy true isShape fs s
 abbrev pub fieldAt : List ℕ → Field
 fieldAt s = record { tag = getD s 0 0; content = take (headLong s) (drop 3 s) }
 
--- the walk from fs over s, by a fuel above the length of s
-abbrev pub fieldsBy : Bool → ℕ → Bool → List Field → List ℕ → Walk
-fieldsBy inOrder zero isShape fs s = walk 0 fs
-fieldsBy inOrder (suc l) isShape fs s =
-    let e = faultBy inOrder isShape fs s in
+-- the walk from fs over s by the fault of a field behind those met, by a fuel above the length of s
+abbrev pub fieldsWith : (List Field → List ℕ → ℕ) → ℕ → Bool → List Field → List ℕ → Walk
+fieldsWith fault zero isShape fs s = walk 0 fs
+fieldsWith fault (suc l) isShape fs s =
+    let e = fault fs s in
     elim (eqb (length s) 0) [
       | true ↦ walk (when (not (allThere isShape fs)) 6) fs
       | false ↦ elim (eqb e 0) [
-        | true ↦ fieldsBy inOrder l isShape (addField fs (fieldAt s)) (drop (3 + headLong s) s)
+        | true ↦ fieldsWith fault l isShape (addField fs (fieldAt s)) (drop (3 + headLong s) s)
         | false ↦ walk e []
       ]
     ]
+
+abbrev pub fieldsBy : Bool → ℕ → Bool → List Field → List ℕ → Walk
+fieldsBy inOrder l isShape fs s = fieldsWith (faultBy inOrder isShape) l isShape fs s
 
 abbrev pub walkBy : Bool → Bool → List ℕ → Walk
 walkBy inOrder isShape s = fieldsBy inOrder (suc (length s)) isShape [] s

@@ -4,3 +4,4 @@ pub mod Rules
 pub mod Says
 pub mod Writing
 pub mod Ordering
+pub mod Unlimited

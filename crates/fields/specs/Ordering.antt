@@ -23,9 +23,9 @@ abbrev pub rising : ℕ → ℕ → List Field → List Field
 rising zero t fs = []
 rising (suc n) t fs = fieldOf t fs ++ rising n (suc t) fs
 
--- of the six tags from a file's first one on: all that it may have
+-- of the seven tags from a file's first one on: all that it may have
 abbrev pub sorted : Bool → List Field → List Field
-sorted isShape fs = rising 6 (firstTag isShape) fs
+sorted isShape fs = rising 7 (firstTag isShape) fs
 
 -- fields as they stand in a file
 abbrev pub bytesIn : List Field → List ℕ
@@ -58,7 +58,7 @@ pub record OlderWalked (isShape : Bool) (s : List ℕ) (f : Fields) : Type 0 whe
 
 pub record SlotRoom (isShape : Bool) (s : List ℕ) (f : Fields) (slot at room : ℕ) : Type 0 where
   pub walked : OlderWalked isShape s f
-  pub below : slot < 6
+  pub below : slot < 7
   pub enough : at + length (bytesIn (fieldOf (tagAt isShape slot) (oldWalk isShape s .fields))) ≤ room
 
 pub record SortedRoom (isShape : Bool) (s : List ℕ) (f : Fields) (room : ℕ) : Type 0 where

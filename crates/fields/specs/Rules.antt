@@ -19,7 +19,8 @@ listRule t =
     (pick (eqb t 2 || eqb t 5) (Exactly 1)
     (pick (eqb t 3) (EvenUpTo 256)
     (pick (eqb t 4) (UpTo 256)
-    (pick (eqb t 6) (UpTo 80) NoTag))))
+    (pick (eqb t 6) (UpTo 80)
+    (pick (eqb t 7) (UpTo 128) NoTag)))))
 
 abbrev pub shapeRule : ℕ → Rule
 shapeRule t =
@@ -56,7 +57,7 @@ pub record RuleIs (isShape : Bool) (t : ℕ) (r : Rule) : Type 0 where
   pub number : ruleNumber r ≡ when (not (tagOk isShape t)) 2
   pub long : (n : ℕ) → tagOk isShape t ≡ true → keeps r n ≡ longOk isShape t n
 
--- slots: tags 1 to 6 of a list are 0 to 5, tags 11 to 15 hexadecimal of a shape 0 to 4
+-- slots: tags 1 to 7 of a list are 0 to 6, tags 11 to 15 hexadecimal of a shape 0 to 4
 abbrev pub firstTag : Bool → ℕ
 firstTag isShape = pick isShape 17 1
 
@@ -88,7 +89,7 @@ pub record FrontIs (isShape : Bool) (seen : List Bool) (low : ℕ) (s : List ℕ
   pub front : r ≡ frontOf isShape seen low s
   pub number : numberOf r ≡ frontFault isShape seen low s
 
--- every field but the remark is there
+-- every field but the remark and the limits is there
 abbrev pub allSeen : Bool → List Bool → Bool
 allSeen isShape seen =
     getD seen 0 false && (getD seen 1 false && (getD seen 2 false && (getD seen 3 false && (isShape || getD seen 4 false))))

@@ -28,9 +28,9 @@ enum Front {
 // Where each field's content stands in the file. A refused file holds nothing.
 pub struct Fields {
     pub number: u8,
-    pub at: [usize; 6],
-    pub long: [usize; 6],
-    pub seen: [bool; 6],
+    pub at: [usize; 7],
+    pub long: [usize; 7],
+    pub seen: [bool; 7],
 }
 
 // The rule of a tag of a plate list.
@@ -43,6 +43,7 @@ pub fn list_rule(tag: u8) -> Rule
         0x03 => Rule::EvenUpTo(256),
         0x04 => Rule::UpTo(256),
         0x06 => Rule::UpTo(80),
+        0x07 => Rule::UpTo(128),
         _ => Rule::NoTag,
     }
 }
@@ -101,7 +102,7 @@ fn slot_of(shape: bool, tag: u8) -> usize
 }
 
 // The field at the front of `s`, with the slots seen before it and the tag that it may not be below: all six refusals, then the field.
-fn step(s: &[u8], shape: bool, seen: [bool; 6], low: u8) -> Front
+fn step(s: &[u8], shape: bool, seen: [bool; 7], low: u8) -> Front
     ensures { λ r. ⌜ FrontIs shape seen low (now (s .entry)) r ⌝ }
 {
     let left = s.len();
@@ -133,8 +134,8 @@ fn step(s: &[u8], shape: bool, seen: [bool; 6], low: u8) -> Front
     Front::Met { slot, long }
 }
 
-// Every field but the remark was seen.
-fn all_seen(shape: bool, seen: [bool; 6]) -> bool
+// Every field but the remark and the limits was seen.
+fn all_seen(shape: bool, seen: [bool; 7]) -> bool
     ensures { λ r. ⌜ r ≡ allSeen shape seen ⌝ }
 {
     seen[0] && (seen[1] && (seen[2] && (seen[3] && (shape || seen[4]))))
@@ -146,9 +147,9 @@ fn refused(number: u8) -> Fields
 {
     Fields {
         number,
-        at: [0; 6],
-        long: [0; 6],
-        seen: [false; 6],
+        at: [0; 7],
+        long: [0; 7],
+        seen: [false; 7],
     }
 }
 
@@ -166,9 +167,9 @@ fn lowest_after(in_order: bool, tag: u8) -> u8
 fn walk(s: &[u8], shape: bool, in_order: bool) -> Fields
     ensures { λ r. ⌜ HoldsBy «in_order» shape (now (s .entry)) r ⌝ }
 {
-    let mut at = [0usize; 6];
-    let mut long = [0usize; 6];
-    let mut seen = [false; 6];
+    let mut at = [0usize; 7];
+    let mut long = [0usize; 7];
+    let mut seen = [false; 7];
     let mut low = 0u8;
     let mut next = 0;
     while s.len() - next > 0 {
@@ -222,7 +223,7 @@ pub fn walk_older(s: &[u8], shape: bool) -> Fields
 
 // The content of a slot; empty where the field is absent.
 pub fn content(s: &[u8], f: Fields, slot: usize) -> &[u8]
-    requires { ⌜ (slot < 6) × Within (now s) f ⌝ }
+    requires { ⌜ (slot < 7) × Within (now s) f ⌝ }
     ensures { λ r. ⌜ now r ≡ bytesOf (now (s .entry)) f slot ⌝ }
 {
     let at = f.at[slot];
@@ -232,7 +233,7 @@ pub fn content(s: &[u8], f: Fields, slot: usize) -> &[u8]
 
 // Byte `i` of a slot's content; 0 behind its end.
 pub fn byte_of(s: &[u8], f: Fields, slot: usize, i: usize) -> u8
-    requires { ⌜ (slot < 6) × Within (now s) f ⌝ }
+    requires { ⌜ (slot < 7) × Within (now s) f ⌝ }
     ensures { λ r. ⌜ r ≡ getD (bytesOf (now (s .entry)) f slot) i 0 ⌝ }
 {
     let c = content(s, f, slot);
@@ -241,7 +242,7 @@ pub fn byte_of(s: &[u8], f: Fields, slot: usize, i: usize) -> u8
 
 // The first two bytes of a slot's content as a number, high byte first.
 pub fn number_of(s: &[u8], f: Fields, slot: usize) -> usize
-    requires { ⌜ (slot < 6) × Within (now s) f ⌝ }
+    requires { ⌜ (slot < 7) × Within (now s) f ⌝ }
     ensures { λ r. ⌜ r ≡ word (bytesOf (now (s .entry)) f slot) ⌝ }
 {
     256 * wide(byte_of(s, f, slot, 0)) + wide(byte_of(s, f, slot, 1))

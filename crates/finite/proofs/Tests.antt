@@ -79,7 +79,7 @@ equal-or-not a b = ⊎-elim (λ e. inl (eqb-true a b e)) (λ e. inr (eqb-false a
 pub eqb-turned : (a b : ℕ) → eqb a b ≡ eqb b a
 eqb-turned a b = same-test (eqb a b) (eqb b a) (λ e. eq-eqb b a (sym (eqb-true a b e))) (λ e. eq-eqb a b (sym (eqb-true b a e)))
 
--- the first of two faults is none only where both are, and the first where that is one; the second matters only where the first is none; of three it does not matter which two are put together
+-- the first of two faults is none only where both are, and the first where that is one; the second matters only where the first is none; of three it does not matter which two are put together; behind a last fault that is none nothing is added
 pub first-none : (a b : ℕ) → firstOf a b ≡ 0 → (a ≡ 0) × (b ≡ 0)
 first-none zero b e = (refl, e)
 first-none (suc a) b e = absurd (omega arith)
@@ -95,6 +95,10 @@ first-same (suc a) b c h = refl
 pub first-assoc : (a b c : ℕ) → firstOf a (firstOf b c) ≡ firstOf (firstOf a b) c
 first-assoc zero b c = refl
 first-assoc (suc a) b c = refl
+
+pub first-last : (a : ℕ) → firstOf a 0 ≡ a
+first-last zero = refl
+first-last (suc a) = refl
 
 pub when-none : (t : Bool) (n : ℕ) → when t (suc n) ≡ 0 → t ≡ false
 when-none true n e = absurd (omega arith)

@@ -16,7 +16,7 @@ fn show(list: &[u8], text: &mut [u8]) {
     io::write_all(STDOUT_FILENO, &text[..long]);
 }
 
-// Of longer input only the first 1,024 bytes are read. No accepted list is longer than 614 bytes, so such
+// Of longer input only the first 1,024 bytes are read. No accepted list is longer than 745 bytes, so such
 // input is refused, by the number that the whole has (`Files.front`).
 // 8,192 bytes hold every listing: a line for each of 256 darts has at most 27 bytes, and the two in front
 // of them have at most 15 each (a listing has at most 6,939 bytes).

@@ -1,4 +1,4 @@
--- What the check promises, from what its steps give: the list's refusal, the shape file's, the one judged, 22, or a sound verdict. Assumes nothing.
+-- What the check promises, from what its steps give: the list's refusal, the shape file's, the one judged, 22, 25, or a sound verdict. Assumes nothing.
 use mathlib.Core.Path.{_≡_, refl, sym, ap, subst, _∙_}
 use mathlib.Core.Bool.{Bool, true, false, _&&_, not}
 use mathlib.Core.List.{List}
@@ -12,8 +12,8 @@ use Rattle.fields.specs.Says.{bytesOf}
 use Rattle.fields.specs.declared.Fields.{Fields}
 use Rattle.plates.specs.declared.Verdict.{Verdict}
 use Rattle.plates.specs.Plates.{firstOf, when, pick, darts, faces}
-use Rattle.plates.specs.Shapes.{total, same, anglesOk, postsOk, facesOk, shapeOf}
-use Rattle.plates.specs.Files.{Field, hasTag, contentOf, walkAll, listFault, plateOf}
+use Rattle.plates.specs.Shapes.{total, same, anglesOk, postsOk, facesOk, pairSums, allWithin, shapeOf}
+use Rattle.plates.specs.Files.{Field, hasTag, contentOf, walkAll, listFault, plateOf, limitsOf}
 use Rattle.plates.specs.Says.{word, anglesIn, rightsIn, checkFault, CheckWith, CheckSays}
 use Rattle.plates.specs.Read.{WalkedFile, shapeFileFault}
 use Rattle.shapes.specs.Judge.{judgement}
@@ -21,14 +21,18 @@ use Rattle.plates.specs.Checks.{refusedVerdict, verdictOf, Judged}
 use Rattle.fields.proofs.Laid.{all-laid}
 use Rattle.fields.proofs.Runs.{all-there}
 use Rattle.plates.proofs.HeldLists.{walked-content}
+use Rattle.plates.proofs.Sound.{sound-within}
 
 -- places in turn: the list, the shape file, the verdict
 module _ (s t : List ℕ) where
   abbrev said : ℕ
   said = word (contentOf 18 (walkAll true t .fields))
 
+  abbrev kept : Bool
+  kept = allWithin (limitsOf s) (pairSums (rightsIn t))
+
   abbrev last : ℕ
-  last = when (not (eqb said (total (rightsIn t)))) 22
+  last = firstOf (when (not (eqb said (total (rightsIn t)))) 22) (when (not kept) 25)
 
   abbrev judged-then : ℕ
   judged-then = firstOf (judgement (plateOf s) (anglesIn t) (rightsIn t)) last
@@ -69,32 +73,41 @@ module _ (s t : List ℕ) where
       later : checkFault s t ≡ judged-then
       later = places ∙ ap (λ (k : ℕ). firstOf k (firstOf (shapeFileFault s t) judged-then)) none ∙ ap (λ (k : ℕ). firstOf k judged-then) sound-file
 
-      -- judged, then 22, then sound
-      module _ {judged fewest : ℕ} {a x : List ℕ} (h : Judged s t judged a x fewest) (ours : Bool) (same-counts : ours ≡ (same a (anglesIn t) && same x (rightsIn t))) where
-        sound-check : judged ≡ 0 → said ≡ total (rightsIn t) → CheckSays s t (record { number = 0; total = total (rightsIn t); fewest = fewest; ours = ours })
-        sound-check j q =
-            let good : checkFault s t ≡ 0 =
-            later ∙ ap (λ (k : ℕ). firstOf k last) (sym (h .number) ∙ j) ∙ ap (λ (b : Bool). when (not b) 22) (eq-eqb said (total (rightsIn t)) q) in
+      -- judged, then 22, then 25, then sound
+      module _ {judged fewest : ℕ} {within : Bool} {a x : List ℕ} (h : Judged s t judged within a x fewest) (ours : Bool) (same-counts : ours ≡ (same a (anglesIn t) && same x (rightsIn t))) where
+        true-total : judged ≡ 0 → said ≡ total (rightsIn t) → checkFault s t ≡ when (not within) 25
+        true-total j q =
+            later ∙ ap (λ (k : ℕ). firstOf k last) (sym (h .number) ∙ j)
+            ∙ ap (λ (b : Bool). firstOf (when (not b) 22) (when (not kept) 25)) (eq-eqb said (total (rightsIn t)) q) ∙ ap (λ (b : Bool). when (not b) 25) (sym (h .limits))
+
+        sound-check : judged ≡ 0 → said ≡ total (rightsIn t) → within ≡ true → CheckSays s t (record { number = 0; total = total (rightsIn t); fewest = fewest; ours = ours })
+        sound-check j q l =
+            let good : checkFault s t ≡ 0 = true-total j q ∙ ap (λ (b : Bool). when (not b) 25) l in
+            let g = h .best (sound-within s t good) in
             let v : Verdict = record { number = 0; total = total (rightsIn t); fewest = fewest; ours = ours } in
-            subst (λ (k : ℕ). CheckWith k s t v) (sym good) (refl, refl, (a, x, h .best, h .counts, (h .sum, same-counts)))
+            subst (λ (k : ℕ). CheckWith k s t v) (sym good) (refl, refl, (a, x, g .best, g .counts, (g .sum, same-counts)))
+
+        limit-passed : judged ≡ 0 → said ≡ total (rightsIn t) → within ≡ false → CheckSays s t (refusedVerdict 25)
+        limit-passed j q l = refused-check 25 (true-total j q ∙ ap (λ (b : Bool). when (not b) 25) l) (λ z. omega (arith, z))
 
         wrong-total : judged ≡ 0 → (said ≡ total (rightsIn t) → ⊥) → CheckSays s t (refusedVerdict 22)
         wrong-total j n =
             refused-check 22 (
-            later ∙ ap (λ (k : ℕ). firstOf k last) (sym (h .number) ∙ j) ∙ ap (λ (b : Bool). when (not b) 22) (ne-eqb said (total (rightsIn t)) n)
+            later ∙ ap (λ (k : ℕ). firstOf k last) (sym (h .number) ∙ j) ∙ ap (λ (b : Bool). firstOf (when (not b) 22) (when (not kept) 25)) (ne-eqb said (total (rightsIn t)) n)
             ) (λ z. omega (arith, z))
 
         judged-wrong : (judged ≡ 0 → ⊥) → CheckSays s t (refusedVerdict judged)
         judged-wrong n = refused-check judged (later ∙ ap (λ (k : ℕ). firstOf k last) (sym (h .number)) ∙ first-some judged last n) n
 
-        pub verdict-says : CheckSays s t (verdictOf judged said (total (rightsIn t)) fewest ours)
-        verdict-says = go (eqb judged 0) refl (eqb said (total (rightsIn t))) refl
+        pub verdict-says : CheckSays s t (verdictOf judged said (total (rightsIn t)) within fewest ours)
+        verdict-says = go (eqb judged 0) refl (eqb said (total (rightsIn t))) refl within refl
           where
-            go : (b : Bool) → eqb judged 0 ≡ b → (c : Bool) → eqb said (total (rightsIn t)) ≡ c
-                → CheckSays s t (pick b (pick c (record { number = 0; total = total (rightsIn t); fewest = fewest; ours = ours }) (refusedVerdict 22)) (refusedVerdict judged))
-            go true e true q = sound-check (eqb-true judged 0 e) (eqb-true said (total (rightsIn t)) q)
-            go true e false q = wrong-total (eqb-true judged 0 e) (eqb-false said (total (rightsIn t)) q)
-            go false e c q = judged-wrong (eqb-false judged 0 e)
+            go : (b : Bool) → eqb judged 0 ≡ b → (c : Bool) → eqb said (total (rightsIn t)) ≡ c → (d : Bool) → within ≡ d
+                → CheckSays s t (pick b (pick c (pick d (record { number = 0; total = total (rightsIn t); fewest = fewest; ours = ours }) (refusedVerdict 25)) (refusedVerdict 22)) (refusedVerdict judged))
+            go true e true q true l = sound-check (eqb-true judged 0 e) (eqb-true said (total (rightsIn t)) q) l
+            go true e true q false l = limit-passed (eqb-true judged 0 e) (eqb-true said (total (rightsIn t)) q) l
+            go true e false q d l = wrong-total (eqb-true judged 0 e) (eqb-false said (total (rightsIn t)) q)
+            go false e c q d l = judged-wrong (eqb-false judged 0 e)
 
 -- the same from slots
 module _ {t : List ℕ} {g : Fields} (w : WalkedFile true t g) where
@@ -111,9 +124,9 @@ module _ {t : List ℕ} {g : Fields} (w : WalkedFile true t g) where
   pub rights-few : (r : List ℕ) → r ≡ bytesOf t g 3 → length r ≤ 256
   rights-few r e = omega (arith, ap length (e ∙ walked-content w 3 (lit< tt)), leb-true (length (contentOf 20 us)) 256 (all-laid true true t 20 there-20))
 
-  pub verdict-read : (judged fewest : ℕ) (a x b r : List ℕ) (n k : ℕ) (v : Verdict) (i j ij : Bool) → b ≡ bytesOf t g 2 → r ≡ bytesOf t g 3 → n ≡ word (bytesOf t g 1) → k ≡ total r
-      → i ≡ same a b → j ≡ same x r → ij ≡ (i && j) → v ≡ verdictOf judged n k fewest ij → (s : List ℕ) → Judged s t judged a x fewest → CheckSays s t v
-  verdict-read judged fewest a x b r n k v i j ij angles rights said-is counted i-is j-is ij-is v-is s h =
+  pub verdict-read : (judged fewest : ℕ) (within : Bool) (a x b r : List ℕ) (n k : ℕ) (v : Verdict) (i j ij : Bool) → b ≡ bytesOf t g 2 → r ≡ bytesOf t g 3 → n ≡ word (bytesOf t g 1) → k ≡ total r
+      → i ≡ same a b → j ≡ same x r → ij ≡ (i && j) → v ≡ verdictOf judged n k within fewest ij → (s : List ℕ) → Judged s t judged within a x fewest → CheckSays s t v
+  verdict-read judged fewest within a x b r n k v i j ij angles rights said-is counted i-is j-is ij-is v-is s h =
       let angles-are : b ≡ anglesIn t = angles ∙ walked-content w 2 (lit< tt) in
       let rights-are : r ≡ rightsIn t = rights ∙ walked-content w 3 (lit< tt) in
       let n-is : n ≡ said s t = said-is ∙ ap word (walked-content w 1 (lit< tt)) in
@@ -121,5 +134,6 @@ module _ {t : List ℕ} {g : Fields} (w : WalkedFile true t g) where
       let i-same : i ≡ same a (anglesIn t) = i-is ∙ ap (same a) angles-are in
       let j-same : j ≡ same x (rightsIn t) = j-is ∙ ap (same x) rights-are in
       let both : ij ≡ (same a (anglesIn t) && same x (rightsIn t)) = ij-is ∙ ap (λ (c : Bool). c && j) i-same ∙ ap (λ (c : Bool). same a (anglesIn t) && c) j-same in
-      let v-are : v ≡ verdictOf judged (said s t) (total (rightsIn t)) fewest ij = v-is ∙ ap (λ (m : ℕ). verdictOf judged m k fewest ij) n-is ∙ ap (λ (m : ℕ). verdictOf judged (said s t) m fewest ij) k-is in
+      let v-are : v ≡ verdictOf judged (said s t) (total (rightsIn t)) within fewest ij =
+      v-is ∙ ap (λ (m : ℕ). verdictOf judged m k within fewest ij) n-is ∙ ap (λ (m : ℕ). verdictOf judged (said s t) m within fewest ij) k-is in
       subst (λ (u : Verdict). CheckSays s t u) (sym v-are) (verdict-says s t (h .no-fault) (h .no-file-fault) h ij both)

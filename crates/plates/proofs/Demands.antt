@@ -1,5 +1,5 @@
 -- The demands of Says and of Claims, whole, and the paper's other sentences on files. Assumes nothing.
-use mathlib.Core.Path.{_≡_, sym, ap, subst}
+use mathlib.Core.Path.{_≡_, sym, ap, subst, subst₂}
 use mathlib.Core.Bool.{false}
 use mathlib.Core.List.{List}
 use Prim.Native.Nat.{ℕ, _+_, _*_, _≤_}
@@ -10,8 +10,8 @@ use Rattle.shapes.proofs.Accepted.{ordered}
 use Rattle.shapes.proofs.Tamassia.{two-to-a-strip}
 use Rattle.plates.specs.Plates.{Plate, plate, strips}
 use Rattle.plates.specs.Shapes.{rightsOf, shapeOf}
-use Rattle.plates.specs.Files.{walkAll, listFault, plateOf}
-use Rattle.plates.specs.Claims.{Best}
+use Rattle.plates.specs.Files.{walkAll, listFault, plateOf, limitsOf}
+use Rattle.plates.specs.Claims.{BestWithin}
 use Rattle.plates.specs.Says.{fileLong, remarkLong, SamePlate, Same-shape, Demands, Files}
 use Rattle.plates.proofs.Fronts.{fronts}
 use Rattle.plates.proofs.Lists.{list-walked, list-accepted, list-demands}
@@ -32,11 +32,11 @@ same-plate s t h =
 
 pub same-shape : Same-shape
 same-shape s t a r b q e h x m y n =
-    same-counts (plateOf s) a r b q x m
-    (subst (λ (p : Plate). Best p (shapeOf p b q)) (sym (same-plate s t h)) y)
+    same-counts (plateOf s) (limitsOf s) a r b q x m
+    (subst₂ (λ (p : Plate) (ls : List ℕ). BestWithin p ls (shapeOf p b q)) (sym (same-plate s t h)) (sym (h .limits)) y)
     (subst (λ (p : Plate). rightsOf (shapeOf p b q .words) ≡ q) (sym (same-plate s t h)) n)
 
-pub list-longest : (s : List ℕ) → listFault s ≡ 0 → length s ≤ 614
+pub list-longest : (s : List ℕ) → listFault s ≡ 0 → length s ≤ 745
 list-longest s e = Longest.list-longest s (list-walked s e)
 
 pub file-long : (s : List ℕ) → listFault s ≡ 0 → fileLong s ≡ 16 + 4 * strips (plateOf s) + remarkLong (walkAll false s .fields)

@@ -15,14 +15,14 @@ use Rattle.fields.proofs.Laid.{every-field}
 use Rattle.shapes.proofs.Meets.{meets-facts}
 use Rattle.plates.specs.Plates.{Plate, pick}
 use Rattle.plates.specs.Shapes.{total, anglesOk, rightsOf, shapeOf}
-use Rattle.plates.specs.Files.{Field, hasTag, contentOf, addField, headLong, fieldFault, fieldAt, walkAll, two, field, remarkPart, fileBytes, shapeBytes, listFault, plateOf}
-use Rattle.plates.specs.Claims.{Best}
+use Rattle.plates.specs.Files.{Field, hasTag, contentOf, addField, headLong, fieldFault, fieldAt, walkAll, two, field, remarkPart, fileBytes, shapeBytes, listFault, plateOf, limitsOf}
+use Rattle.plates.specs.Claims.{BestOf}
 use Rattle.plates.specs.Says.{allBytes}
 use Rattle.plates.proofs.Contents.{ListFields, list-fields}
 use Rattle.plates.proofs.Lists.{list-walked, list-accepted}
 use Rattle.plates.proofs.ShapeFile.{from-18, from-19, from-20}
 use Rattle.plates.proofs.ReadsBack.{angles-many, rights-many, shape-bytes}
-use Rattle.shapes.proofs.BestFits.{best-unit, best-total}
+use Rattle.shapes.proofs.BestFits.{within-unit, within-total}
 
 bytes-angles : (a : List ℕ) → anglesOk a ≡ true → allBytes a ≡ true
 bytes-angles [] e = refl
@@ -47,7 +47,7 @@ more-contents k fs s e all ok t = go (eqb t (fieldAt s .tag)) refl
 pub contents-bytes : (k : Bool) (s : List ℕ) → allBytes s ≡ true → AllContents (walkAll k s .fields)
 contents-bytes k s e = every-field true k (λ r. allBytes r ≡ true) AllContents (λ t. refl) bytes-drop (more-contents k) (suc (length s)) [] s e (λ t. refl)
 
-module _ (s a r : List ℕ) (e : listFault s ≡ 0) (bytes : allBytes s ≡ true) (best : Best (plateOf s) (shapeOf (plateOf s) a r)) (counts : rightsOf (shapeOf (plateOf s) a r .words) ≡ r) where
+module _ (s a r : List ℕ) (e : listFault s ≡ 0) (bytes : allBytes s ≡ true) (best : BestOf s (shapeOf (plateOf s) a r)) (counts : rightsOf (shapeOf (plateOf s) a r .words) ≡ r) where
   abbrev p : Plate
   p = plateOf s
 
@@ -64,11 +64,11 @@ module _ (s a r : List ℕ) (e : listFault s ≡ 0) (bytes : allBytes s ≡ true
   rights-fit = omega (arith, rights-many s a r e (best .meets-all) counts, laid .ends-most)
 
   pub total-fit : total r < 65536
-  total-fit = omega (arith, best-total p (list-accepted s e) (shapeOf p a r) best, ap total counts)
+  total-fit = omega (arith, within-total p (list-accepted s e) (limitsOf s) (shapeOf p a r) best, ap total counts)
 
   pub unit-fit : (d : ℕ) → d < length r → getD r d 0 < 256
   unit-fit d l =
-      omega (arith, best-unit p (list-accepted s e) (shapeOf p a r) best d (omega (arith, rights-many s a r e (best .meets-all) counts)), ap (λ (q : List ℕ). getD q d 0) counts)
+      omega (arith, within-unit p (list-accepted s e) (limitsOf s) (shapeOf p a r) best d (omega (arith, rights-many s a r e (best .meets-all) counts)), ap (λ (q : List ℕ). getD q d 0) counts)
 
   bytes-rights : allBytes r ≡ true
   bytes-rights = each-over allBytes (λ x. ltb x 256) refl (λ x y. refl) r (λ d l. lt-ltb (getD r d 0) 256 (unit-fit d l))

@@ -3,7 +3,8 @@ use mathlib.Core.Path.{refl}
 use mathlib.Core.List.{[], _∷_}
 use Rattle.shapes.proofs.Joints.{straight-posts as plate-posts}
 use Rattle.shapes.proofs.Tried.{table-best}
-use Rattle.plates.specs.Files.{plateOf}
+use Rattle.shapes.proofs.Unpriced.{best-free}
+use Rattle.plates.specs.Files.{plateOf, limitsOf}
 use Rattle.plates.specs.Claims.{Best}
 use Rattle.plates.specs.Joints.{jointList, straightShape, One-joint, Straight-posts}
 use Rattle.plates.proofs.OneAnswer.{written-only}
@@ -18,13 +19,13 @@ one-joint = record {
   one-cornered = (refl, refl);
   plainly-first = refl;
   best = joint-best;
-  written = λ o o′ r l. written-only jointList (2 ∷ 4 ∷ 4 ∷ 2 ∷ []) (0 ∷ 0 ∷ 0 ∷ 0 ∷ []) o o′ r refl l joint-best refl;
+  written = λ o o′ r l. written-only jointList (2 ∷ 4 ∷ 4 ∷ 2 ∷ []) (0 ∷ 0 ∷ 0 ∷ 0 ∷ []) o o′ r refl l (best-free [] refl joint-best) refl;
 }
 
 pub straight-posts : Straight-posts
 straight-posts = record {
-  in-parts = λ b e s. plate-posts .in-parts (plateOf b) s;
-  kept = λ b e s. plate-posts .kept (plateOf b) s;
-  no-joint = λ b e. plate-posts .no-joint (plateOf b);
+  in-parts = λ b e. plate-posts .in-parts (plateOf b) (limitsOf b);
+  kept = λ b e. plate-posts .kept (plateOf b) (limitsOf b);
+  no-joint = λ b e none. plate-posts .no-joint (plateOf b) none (limitsOf b);
   one-joint = one-joint;
 }

@@ -25,3 +25,4 @@ pub mod P1
 pub mod Calls
 pub mod Loops
 pub mod Joints
+pub mod Limits

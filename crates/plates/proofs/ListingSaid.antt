@@ -12,7 +12,10 @@ use Rattle.finite.proofs.Tests.{each-over}
 use Rattle.fields.specs.Says.{bytesOf}
 use Rattle.fields.specs.declared.Fields.{Fields}
 use Rattle.plates.specs.declared.Listed.{Listed}
-use Rattle.plates.specs.Files.{contentOf, walkAll, listFault}
+use Rattle.plates.specs.Plates.{firstOf}
+use Rattle.plates.specs.Files.{contentOf, walkAll, listFault, plateOf}
+use Rattle.plates.specs.Shapes.{shapeOf}
+use Rattle.plates.specs.Claims.{NoneWithin}
 use Rattle.plates.specs.Says.{word, allBytes}
 use Rattle.plates.specs.Encodes.{BestGiven}
 use Rattle.plates.specs.Listing.{listingText, refusedText, TextWritten, ListingRoom, Gives, ListingWith, ListingSays}
@@ -52,10 +55,16 @@ module _ {s : List ℕ} {f : Fields} {a r : List ℕ} {n : ℕ} (g : BestGiven s
   }
 
   pub listing-said : (o o′ : List ℕ) (q : Listed) → Gives (listingText v a r) o o′ q → ListingSays s o o′ q
-  listing-said o o′ q h =
-      subst (λ (k : ℕ). ListingWith k s o o′ q) (sym (g .no-fault))
-      (a, r, g .best, g .counts, subst (λ (x : ℕ). Gives (listingText x a r) o o′ q) revision-is h)
+  listing-said o o′ q h = (
+    false,
+    (λ z. (shapeOf (plateOf s) a r, g .best .meets-all, g .best .keeps-all)),
+    subst (λ (k : ℕ). ListingWith (firstOf k 0) s o o′ q) (sym (g .no-fault))
+        (a, r, g .best, g .counts, subst (λ (x : ℕ). Gives (listingText x a r) o o′ q) revision-is h),
+  )
 
 pub refused-said : (e : ℕ) (s o o′ : List ℕ) (q : Listed) → e ≡ listFault s → (e ≡ 0 → ⊥) → Gives (refusedText e) o o′ q → ListingSays s o o′ q
 refused-said zero s o o′ q z n g = absurd (n refl)
-refused-said (suc e) s o o′ q z n g = subst (λ (k : ℕ). ListingWith k s o o′ q) z g
+refused-said (suc e) s o o′ q z n g = (false, (λ y. absurd (n (z ∙ y))), subst (λ (k : ℕ). ListingWith (firstOf k 0) s o o′ q) z g)
+
+pub none-said : (s o o′ : List ℕ) (q : Listed) → listFault s ≡ 0 → NoneWithin s → Gives (refusedText 24) o o′ q → ListingSays s o o′ q
+none-said s o o′ q e none g = (true, (λ z. none), subst (λ (k : ℕ). ListingWith (firstOf k 24) s o o′ q) (sym e) g)

@@ -1,4 +1,4 @@
--- The promises leave no choice: two results that fulfil one of them are the same, since a list has one best shape. Assumes nothing.
+-- The promises leave no choice: two results that fulfil one of them are the same, since a list has one best shape within its limits or no shape keeps them. Assumes nothing.
 use mathlib.Core.Path.{_≡_, refl, sym, ap, ap₂, subst, _∙_}
 use mathlib.Core.Bool.{Bool, true, false, _&&_}
 use mathlib.Core.List.{List}
@@ -11,17 +11,28 @@ use Rattle.plates.specs.declared.Verdict.{Verdict}
 use Rattle.plates.specs.declared.Listed.{Listed}
 use Rattle.plates.specs.Plates.{pickT, firstOf, when}
 use Rattle.plates.specs.Shapes.{rightsOf, total, same, shapeOf}
-use Rattle.plates.specs.Files.{walkAll, contentOf, listFault, plateOf, shapeBytes}
-use Rattle.plates.specs.Claims.{Best}
-use Rattle.plates.specs.Says.{over, word, anglesIn, rightsIn, fileLong, shapeFault, checkFault, ShapeWith, ShapeSays, CheckWith, CheckSays}
-use Rattle.plates.specs.Listing.{listingText, refusedText, Gives, ListingWith, ListingSays}
+use Rattle.plates.specs.Files.{walkAll, contentOf, listFault, plateOf, limitsOf, shapeBytes}
+use Rattle.plates.specs.Claims.{BestOf, NoneWithin, SomeWithin}
+use Rattle.plates.specs.Says.{over, word, anglesIn, rightsIn, fileLong, NoneKeeps, shapeFault, checkFault, ShapeWith, ShapeSays, CheckWith, CheckSays}
+use Rattle.plates.specs.Listing.{listingText, refusedText, Gives, listingFault, ListingWith, ListingSays}
 use Rattle.plates.specs.Answers.{shaped}
 use Rattle.plates.proofs.Verdicts.{same-counts}
+
+-- a test told of an accepted list has one answer, and of a refused one it changes nothing
+pub one-number : (s : List ℕ) (n m : Bool) (f : Bool → ℕ) → NoneKeeps n s → NoneKeeps m s → firstOf (listFault s) (f n) ≡ firstOf (listFault s) (f m)
+one-number s n m f h k = go (listFault s) n m h k
+  where
+    go : (e : ℕ) (n m : Bool) → (e ≡ 0 → pickT n (NoneWithin s) (SomeWithin s)) → (e ≡ 0 → pickT m (NoneWithin s) (SomeWithin s)) → firstOf e (f n) ≡ firstOf e (f m)
+    go (suc e) n m h k = refl
+    go zero true true h k = refl
+    go zero false false h k = refl
+    go zero true false h k = let (u, a, b) = k refl in absurd (h refl u a b)
+    go zero false true h k = let (u, a, b) = h refl in absurd (k refl u a b)
 
 shape-with : (f : ℕ) (s o o₁ o₂ : List ℕ) (r q : Shaped) → ShapeWith f s o o₁ r → ShapeWith f s o o₂ q → (o₁ ≡ o₂) × (r ≡ q)
 shape-with zero s o o₁ o₂ r q (n, (a, x, best, counts, (long, bends, out))) (m, (b, y, best′, counts′, (long′, bends′, out′))) =
     let p = plateOf s in
-    let (totals, angles, rights) = same-counts p a x b y best counts best′ counts′ in
+    let (totals, angles, rights) = same-counts p (limitsOf s) a x b y best counts best′ counts′ in
     let bytes = ap₂ (λ (c d : List ℕ). shapeBytes (walkAll false s .fields) (shapeOf p c d)) angles rights in
     let number : r .number ≡ q .number = n ∙ sym m in
     let size : r .long ≡ q .long = long ∙ ap length bytes ∙ sym long′ in
@@ -34,20 +45,26 @@ shape-with (suc f) s o o₁ o₂ r q (n, long, bends, out) (m, long′, bends′
     (out ∙ sym out′, λ i. record { number = number i; long = size i; bends = sum i })
 
 pub shape-only : (s o o₁ o₂ : List ℕ) (r q : Shaped) → ShapeSays s o o₁ r → ShapeSays s o o₂ q → (o₁ ≡ o₂) × (r ≡ q)
-shape-only s o = shape-with (shapeFault s o) s o
+shape-only s o o₁ o₂ r q (n, h, x) (m, k, y) =
+    shape-with (shapeFault m s o) s o o₁ o₂ r q
+    (subst (λ (e : ℕ). ShapeWith e s o o₁ r) (one-number s n m (λ b. firstOf (when b 24) (when (ltb (length o) (fileLong s)) 16)) h k) x) y
 
 -- the counts of the best shape known: what is answered and written to memory that is long enough
 pub written-only : (s a x o o′ : List ℕ) (r : Shaped) → listFault s ≡ 0 → fileLong s ≤ length o
-    → Best (plateOf s) (shapeOf (plateOf s) a x) → rightsOf (shapeOf (plateOf s) a x .words) ≡ x → ShapeSays s o o′ r
+    → BestOf s (shapeOf (plateOf s) a x) → rightsOf (shapeOf (plateOf s) a x .words) ≡ x → ShapeSays s o o′ r
     → let b = shapeBytes (walkAll false s .fields) (shapeOf (plateOf s) a x) in (o′ ≡ over b o) × (r ≡ shaped 0 (length b) (total x))
 written-only s a x o o′ r e l best counts says =
     let b = shapeBytes (walkAll false s .fields) (shapeOf (plateOf s) a x) in
-    let accepted : shapeFault s o ≡ 0 = ap₂ (λ (n : ℕ) (t : Bool). firstOf n (when t 16)) e (le-ltb (length o) (fileLong s) l) in
-    shape-with 0 s o o′ (over b o) r (shaped 0 (length b) (total x)) (subst (λ (f : ℕ). ShapeWith f s o o′ r) accepted says) (refl, (a, x, best, counts, (refl, refl, refl)))
+    let accepted : shapeFault false s o ≡ 0 = ap₂ (λ (n : ℕ) (t : Bool). firstOf n (when t 16)) e (le-ltb (length o) (fileLong s) l) in
+    shape-only s o o′ (over b o) r (shaped 0 (length b) (total x)) says (
+      false,
+      (λ z. (shapeOf (plateOf s) a x, best .meets-all, best .keeps-all)),
+      subst (λ (f : ℕ). ShapeWith f s o (over b o) (shaped 0 (length b) (total x))) (sym accepted) (refl, (a, x, best, counts, (refl, refl, refl))),
+    )
 
 check-with : (f : ℕ) (s t : List ℕ) (r q : Verdict) → CheckWith f s t r → CheckWith f s t q → r ≡ q
 check-with zero s t r q (n, tot, (a, x, best, counts, (few, ours))) (m, tot′, (b, y, best′, counts′, (few′, ours′))) =
-    let (totals, angles, rights) = same-counts (plateOf s) a x b y best counts best′ counts′ in
+    let (totals, angles, rights) = same-counts (plateOf s) (limitsOf s) a x b y best counts best′ counts′ in
     let number : r .number ≡ q .number = n ∙ sym m in
     let sum : r .total ≡ q .total = tot ∙ sym tot′ in
     let fewest : r .fewest ≡ q .fewest = few ∙ totals ∙ sym few′ in
@@ -82,9 +99,10 @@ gives-only t u o o₁ o₂ r q e g h = go (ltb (length o) (length u)) (rw e at g
 listing-with : (f : ℕ) (s o o₁ o₂ : List ℕ) (r q : Listed) → ListingWith f s o o₁ r → ListingWith f s o o₂ q → (o₁ ≡ o₂) × (r ≡ q)
 listing-with zero s o o₁ o₂ r q (a, x, best, counts, g) (b, y, best′, counts′, h) =
     let v = word (contentOf 1 (walkAll false s .fields)) in
-    let (totals, angles, rights) = same-counts (plateOf s) a x b y best counts best′ counts′ in
+    let (totals, angles, rights) = same-counts (plateOf s) (limitsOf s) a x b y best counts best′ counts′ in
     gives-only (listingText v a x) (listingText v b y) o o₁ o₂ r q (ap₂ (listingText v) angles rights) g h
 listing-with (suc f) s o o₁ o₂ r q g h = gives-only (refusedText (suc f)) (refusedText (suc f)) o o₁ o₂ r q refl g h
 
 pub listing-only : (s o o₁ o₂ : List ℕ) (r q : Listed) → ListingSays s o o₁ r → ListingSays s o o₂ q → (o₁ ≡ o₂) × (r ≡ q)
-listing-only s o = listing-with (listFault s) s o
+listing-only s o o₁ o₂ r q (n, h, x) (m, k, y) =
+    listing-with (listingFault m s) s o o₁ o₂ r q (subst (λ (e : ℕ). ListingWith e s o o₁ r) (one-number s n m (λ b. when b 24) h k) x) y

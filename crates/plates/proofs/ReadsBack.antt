@@ -8,8 +8,8 @@ use lib.ListN.{length}
 use Rattle.shapes.proofs.Words.{rights-long}
 use Rattle.shapes.proofs.Meets.{Meets, meets-facts}
 use Rattle.plates.specs.Plates.{Plate, darts}
-use Rattle.plates.specs.Shapes.{Shape, meets, bends, total, rightsOf, shapeOf}
-use Rattle.plates.specs.Files.{Field, Walk, walk, contentOf, walkAll, listFault, plateOf, fileBytes, shapeBytes}
+use Rattle.plates.specs.Shapes.{Shape, meets, bends, total, rightsOf, stripBends, allWithin, shapeOf}
+use Rattle.plates.specs.Files.{Field, Walk, walk, contentOf, walkAll, listFault, plateOf, limitsOf, fileBytes, shapeBytes}
 use Rattle.plates.specs.Says.{word, anglesIn, rightsIn, checkFault, fileLong, Reads-back}
 use Rattle.plates.proofs.Contents.{ListFields, list-fields}
 use Rattle.plates.proofs.Lists.{list-walked}
@@ -60,18 +60,19 @@ module _ (s a r : List ℕ) (e : listFault s ≡ 0) (m : meets (plateOf s) (shap
   total-back : word (contentOf 18 (walkAll true b .fields)) ≡ bends x
   total-back = ap (λ (w : Walk). word (contentOf 18 (w .fields))) walked ∙ word-two (total r) ∙ ap total (sym counts)
 
-  sound-back : checkFault s b ≡ 0
-  sound-back =
-      sound-exactly s b e (ap (λ (w : Walk). w .number) walked) .1
-      (subst₂ (λ (c q : List ℕ). (length q ≡ darts p) × (meets p (shapeOf p c q) ≡ true) × (word (contentOf 17 (walkAll true b .fields)) ≡ word (contentOf 1 fs)) × (word (contentOf 18 (walkAll true b .fields)) ≡ bends (shapeOf p c q)))
-      (sym angles-back) (sym rights-back) (rights-many, m, revision-back, total-back))
-
   -- the bytes of the shape are those of its counts
   pub shape-bytes : shapeBytes fs x ≡ b
   shape-bytes = ap (fileBytes fs a) counts
 
-  pub written-reads-back : (checkFault s (shapeBytes fs x) ≡ 0) × (anglesIn (shapeBytes fs x) ≡ a) × (rightsIn (shapeBytes fs x) ≡ r) × (length (shapeBytes fs x) ≡ fileLong s)
-  written-reads-back = subst (λ (t : List ℕ). (checkFault s t ≡ 0) × (anglesIn t ≡ a) × (rightsIn t ≡ r) × (length t ≡ fileLong s)) (sym shape-bytes) (sound-back, angles-back, rights-back, long-back)
+  module _ (kept : allWithin (limitsOf s) (stripBends x) ≡ true) where
+    sound-back : checkFault s b ≡ 0
+    sound-back =
+        sound-exactly s b e (ap (λ (w : Walk). w .number) walked) .1
+        (subst₂ (λ (c q : List ℕ). (length q ≡ darts p) × (meets p (shapeOf p c q) ≡ true) × (word (contentOf 17 (walkAll true b .fields)) ≡ word (contentOf 1 fs)) × (word (contentOf 18 (walkAll true b .fields)) ≡ bends (shapeOf p c q)) × (allWithin (limitsOf s) (stripBends (shapeOf p c q)) ≡ true))
+        (sym angles-back) (sym rights-back) (rights-many, m, revision-back, total-back, kept))
+
+    pub written-reads-back : (checkFault s (shapeBytes fs x) ≡ 0) × (anglesIn (shapeBytes fs x) ≡ a) × (rightsIn (shapeBytes fs x) ≡ r) × (length (shapeBytes fs x) ≡ fileLong s)
+    written-reads-back = subst (λ (t : List ℕ). (checkFault s t ≡ 0) × (anglesIn t ≡ a) × (rightsIn t ≡ r) × (length t ≡ fileLong s)) (sym shape-bytes) (sound-back, angles-back, rights-back, long-back)
 
 pub reads-back : Reads-back
-reads-back s a r e bytes best counts = written-reads-back s a r e (best .meets-all) counts
+reads-back s a r e bytes best counts = written-reads-back s a r e (best .meets-all) counts (best .keeps-all)

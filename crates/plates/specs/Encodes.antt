@@ -9,7 +9,7 @@ use Rattle.plates.specs.declared.Shaped.{Shaped}
 use Rattle.plates.specs.Plates.{darts}
 use Rattle.plates.specs.Shapes.{total, rightsOf, shapeOf}
 use Rattle.plates.specs.Files.{walkAll, listFault, plateOf, fileBytes}
-use Rattle.plates.specs.Claims.{Best}
+use Rattle.plates.specs.Claims.{BestOf}
 use Rattle.plates.specs.Says.{over, remarkLong, fileLong}
 use Rattle.plates.specs.Read.{Walked}
 
@@ -37,7 +37,7 @@ pub record RemarkRoom (s : List ℕ) (f : Fields) (at room : ℕ) : Type 0 where
 pub record BestGiven (s : List ℕ) (f : Fields) (a r : List ℕ) (n : ℕ) : Type 0 where
   pub walked : Walked s f
   pub no-fault : listFault s ≡ 0
-  pub best : Best (plateOf s) (shapeOf (plateOf s) a r)
+  pub best : BestOf s (shapeOf (plateOf s) a r)
   pub counts : rightsOf (shapeOf (plateOf s) a r .words) ≡ r
   pub sum : n ≡ total r
 

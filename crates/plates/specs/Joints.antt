@@ -8,11 +8,11 @@ use lib.ListN.{length}
 use Rattle.plates.specs.declared.Shaped.{Shaped}
 use Rattle.plates.specs.Plates.{degree}
 use Rattle.plates.specs.Shapes.{Shape, meets, bends, cornered, shapeOf}
-use Rattle.plates.specs.Files.{listFault, plateOf}
-use Rattle.plates.specs.Claims.{Best}
+use Rattle.plates.specs.Files.{listFault, plateOf, limitsOf}
+use Rattle.plates.specs.Claims.{Best, BestOf}
 use Rattle.plates.specs.Says.{over, ShapeSays}
 use Rattle.plates.specs.Answers.{shaped}
-pub use Rattle.shapes.specs.Joints.{plainFirst, PlainBest, Straightest}
+pub use Rattle.shapes.specs.Joints.{plainFirst, PlainBest, NoneStraighter, Straightest}
 
 -- P6 with revision 7: two strips that meet at post 1; its shape without bends, straight there, and the one with a corner there
 abbrev pub jointList : List ℕ
@@ -39,10 +39,9 @@ pub record One-joint : Type 0 where
 
 pub record Straight-posts : Type 0 where
   -- the best shape has the fewest bends, then the fewest cornered posts, then it is the first by document 01's order
-  pub in-parts : (b : List ℕ) → listFault b ≡ 0 → (s : Shape) → Best (plateOf b) s ↔ Straightest (plateOf b) s
+  pub in-parts : (b : List ℕ) → listFault b ≡ 0 → (s : Shape) → BestOf b s ↔ Straightest (plateOf b) (limitsOf b) s
   -- the best by document 01's order stays the best where no shape with as few bends has fewer cornered posts
-  pub kept : (b : List ℕ) → listFault b ≡ 0 → (s : Shape) → PlainBest (plateOf b) s
-      → ((u : Shape) → meets (plateOf b) u ≡ true → bends u ≡ bends s → cornered (plateOf b) s ≤ cornered (plateOf b) u) → Best (plateOf b) s
+  pub kept : (b : List ℕ) → listFault b ≡ 0 → (s : Shape) → PlainBest (plateOf b) (limitsOf b) s → NoneStraighter (plateOf b) (limitsOf b) s → BestOf b s
   -- on a plate without a post of exactly two strip ends nothing changes
-  pub no-joint : (b : List ℕ) → listFault b ≡ 0 → ((v : ℕ) → v < plateOf b .posts → degree (plateOf b) v ≡ 2 → ⊥) → (s : Shape) → PlainBest (plateOf b) s ↔ Best (plateOf b) s
+  pub no-joint : (b : List ℕ) → listFault b ≡ 0 → ((v : ℕ) → v < plateOf b .posts → degree (plateOf b) v ≡ 2 → ⊥) → (s : Shape) → PlainBest (plateOf b) (limitsOf b) s ↔ BestOf b s
   pub one-joint : One-joint

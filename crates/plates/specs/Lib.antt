@@ -13,5 +13,6 @@ pub mod Answers
 pub mod Ordering
 pub mod Loops
 pub mod Joints
+pub mod Limits
 pub mod Tried
 pub mod Books

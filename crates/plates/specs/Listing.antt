@@ -1,16 +1,16 @@
 -- The listing: "refused N", or the revision, the bends and a line for each dart, in ASCII codes.
 use mathlib.Core.Path.{_≡_}
-use mathlib.Core.Bool.{true, false}
+use mathlib.Core.Bool.{Bool, true, false}
 use mathlib.Core.List.{List, [], _∷_, _++_}
 use Prim.Native.Nat.{ℕ, zero, suc, _+_, _-_, _*_, _/_, _%_, _≤_, _<_}
 use lib.Dec.{ltb}
 use lib.ListN.{length, getD}
 use Rattle.plates.specs.declared.Listed.{Listed}
-use Rattle.plates.specs.Plates.{pick, pickT}
+use Rattle.plates.specs.Plates.{pick, pickT, firstOf, when}
 use Rattle.plates.specs.Shapes.{total, rightsOf, shapeOf}
 use Rattle.plates.specs.Files.{contentOf, walkAll, listFault, plateOf}
-use Rattle.plates.specs.Claims.{Best}
-use Rattle.plates.specs.Says.{over, word, allBytes, BestBytes}
+use Rattle.plates.specs.Claims.{BestOf}
+use Rattle.plates.specs.Says.{over, word, allBytes, BestBytes, NoneKeeps}
 
 -- the last digit of n
 abbrev pub digit : ℕ → ℕ
@@ -109,11 +109,15 @@ abbrev pub ListingWith : ℕ → List ℕ → List ℕ → List ℕ → Listed �
 ListingWith zero s o o′ r = BestBytes s (λ a x b. Gives (listingText (word (contentOf 1 (walkAll false s .fields))) a x) o o′ r)
 ListingWith (suc f) s o o′ r = Gives (refusedText (suc f)) o o′ r
 
+-- 24 too, told whether no shape keeps the limits
+abbrev pub listingFault : Bool → List ℕ → ℕ
+listingFault none s = firstOf (listFault s) (when none 24)
+
 abbrev pub ListingSays : List ℕ → List ℕ → List ℕ → Listed → Type 0
-ListingSays s o o′ r = ListingWith (listFault s) s o o′ r
+ListingSays s o o′ r = (none : Bool) × NoneKeeps none s × ListingWith (listingFault none s) s o o′ r
 
 -- no listing of an accepted list is longer than 6939 bytes
 abbrev pub Listing-short : Type 0
 Listing-short =
-    (s a r : List ℕ) → listFault s ≡ 0 → allBytes s ≡ true → Best (plateOf s) (shapeOf (plateOf s) a r) → rightsOf (shapeOf (plateOf s) a r .words) ≡ r
+    (s a r : List ℕ) → listFault s ≡ 0 → allBytes s ≡ true → BestOf s (shapeOf (plateOf s) a r) → rightsOf (shapeOf (plateOf s) a r .words) ≡ r
     → length (listingText (word (contentOf 1 (walkAll false s .fields))) a r) ≤ 6939

@@ -3,13 +3,12 @@ use mathlib.Core.Path.{_≡_}
 use mathlib.Core.Bool.{false}
 use mathlib.Core.List.{List}
 use Prim.Native.Nat.{ℕ, _≤_}
-use Rattle.plates.specs.Plates.{firstOf}
-use Rattle.plates.specs.Files.{walkAll, listFault, plateIn, plateOf}
+use Rattle.plates.specs.Files.{walkAll, faultFrom, listFault, plateOf}
 pub use Rattle.embedding.specs.Pass.{noStrips, addEnd, addStrip, goOn, stateOf, stoppedAfter, firstMet, answerOf, stripsFault, earlyFault, lateFault, passFault, GoneOn, Answered}
 
 -- a list's fault, 9 and 11 answered by the pass, stopped after k strips and gone on with over the rest alone
 abbrev pub listPass : ℕ → List ℕ → ℕ
-listPass k s = let w = walkAll false s in firstOf (w .number) (passFault k (plateIn (w .fields)))
+listPass k s = faultFrom (passFault k) (walkAll false s)
 
 pub record One-pass : Type 0 where
   -- stopped after any strip, the pass goes on over the rest alone to the state of the whole field

@@ -9,7 +9,7 @@ use Rattle.fields.specs.Says.{Holds, refusedBy}
 use Rattle.fields.specs.declared.Fields.{Fields}
 use Rattle.embedding.specs.Read.{Stands, blank}
 use Rattle.embedding.specs.declared.Plate.{Plate as Held}
-use Rattle.shapes.specs.Claims.{Accepted, Standing}
+use Rattle.shapes.specs.Claims.{Accepted}
 use Rattle.plates.specs.declared.reading.ListRead.{ListRead}
 use Rattle.plates.specs.Plates.{pickT, firstOf, when, darts}
 use Rattle.plates.specs.Files.{contentOf, walkAll, listFault, plateOf}
@@ -57,9 +57,13 @@ pub record ReadsShape (s t : List ℕ) (g : Fields) : Type 0 where
   pub number : g .number ≡ shapeFileFault s t
   pub held : pickT (eqb (shapeFileFault s t) 0) (ShapeHeld s t g) (g ≡ refusedBy (shapeFileFault s t))
 
--- a held plate that stands for an accepted one, and a shape file with an angle and right bends for each of its darts
-pub record Readable (q : Held) (t : List ℕ) (g : Fields) : Type 0 where
+-- an accepted list with its plate, and a shape file with an angle and right bends for each of its darts
+pub record Readable (s : List ℕ) (f : Fields) (q : Held) (t : List ℕ) (g : Fields) : Type 0 where
+  pub no-fault : listFault s ≡ 0
+  pub no-file-fault : shapeFileFault s t ≡ 0
+  pub walked : Walked s f
+  pub plate : Stands q (plateOf s)
+  pub accepted : Accepted (plateOf s)
   pub fields : WalkedFile true t g
   pub angles-many : length (anglesIn t) ≡ q .darts
   pub rights-many : length (rightsIn t) ≡ q .darts
-  pub standing : Standing q

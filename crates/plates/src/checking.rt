@@ -65,15 +65,18 @@ pub fn refused_verdict(number: u8) -> Verdict
     }
 }
 
-// 19 to 21 as judged, then 22, then a sound verdict.
-fn verdict(judged: u8, said: usize, counted: u32, fewest: u32, ours: bool) -> Verdict
-    ensures { λ r. ⌜ r ≡ verdictOf judged said counted fewest ours ⌝ }
+// 19 to 21 as judged, then 22, then 25, then a sound verdict.
+fn verdict(judged: u8, said: usize, counted: u32, within: bool, fewest: u32, ours: bool) -> Verdict
+    ensures { λ r. ⌜ r ≡ verdictOf judged said counted within fewest ours ⌝ }
 {
     if judged != 0 {
         return refused_verdict(judged);
     }
     if said != counted as usize {
         return refused_verdict(22);
+    }
+    if !within {
+        return refused_verdict(25);
     }
     Verdict {
         number: 0,
@@ -83,17 +86,18 @@ fn verdict(judged: u8, said: usize, counted: u32, fewest: u32, ours: bool) -> Ve
     }
 }
 
-// The verdict on a shape file, from the number judged and the best shape's angles, right bends and total.
+// The verdict on a shape file, from the number judged, whether it keeps the limits, and the best shape's angles, right bends and total.
 pub fn check_read(
     shape: &[u8],
     g: Fields,
     judged: u8,
+    within: bool,
     angles: &[u8],
     rights: &[u8],
     fewest: u32,
 ) -> Verdict
     requires { ⌜ WalkedFile true (now shape) g ⌝ }
-    ensures { λ r. ⌜ ((s : List ℕ) → Judged s (now (shape .entry)) judged (now (angles .entry)) (now (rights .entry)) fewest → CheckSays s (now (shape .entry)) r) ⌝ }
+    ensures { λ r. ⌜ ((s : List ℕ) → Judged s (now (shape .entry)) judged within (now (angles .entry)) (now (rights .entry)) fewest → CheckSays s (now (shape .entry)) r) ⌝ }
 {
     let their_angles = content(shape, g, 2);
     let their_rights = content(shape, g, 3);
@@ -101,5 +105,12 @@ pub fn check_read(
     let counted = total_of(their_rights);
     let is_angles = is_same(angles, their_angles);
     let is_rights = is_same(rights, their_rights);
-    verdict(judged, said, counted, fewest, both(is_angles, is_rights))
+    verdict(
+        judged,
+        said,
+        counted,
+        within,
+        fewest,
+        both(is_angles, is_rights),
+    )
 }

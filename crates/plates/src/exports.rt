@@ -27,7 +27,7 @@ pub extern "C" fn plates_write_shape(
     s.number
 }
 
-// Checking: the refusal's number, or 0 with the file's total, the plate's fewest, and whether the shape is the one written.
+// Checking: the refusal's number, or 0 with the file's total, the fewest within the limits, and whether the shape is the one written.
 #[no_mangle]
 pub extern "C" fn plates_check_shape(
     list: &[u8],

@@ -1,12 +1,13 @@
 //! From plate list to the shape with fewest bends: shaping, checking, listing.
-ghost use mathlib.Core.Path.{_≡_};
-ghost use mathlib.Core.List.{List};
-ghost use Prim.Native.Nat.{ℕ};
+ghost use mathlib.Core.List.{[]};
+ghost use Rattle.embedding.specs.Plates.{Plate as PlateOf};
 ghost use Rattle.embedding.specs.Read.{Stands};
-ghost use Rattle.shapes.specs.Claims.{Accepted};
-ghost use Rattle.plates.specs.Files.{listFault, plateOf};
+ghost use Rattle.shapes.specs.Claims.{Accepted, Standing};
+ghost use Rattle.shapes.specs.Rates.{rates};
+ghost use Rattle.shapes.specs.BestOf.{Answers};
+ghost use Rattle.plates.specs.Files.{limitsOf};
 ghost use Rattle.plates.specs.Says.{ShapeSays, CheckSays};
-ghost use Rattle.plates.specs.Read.{shapeFileFault, Readable};
+ghost use Rattle.plates.specs.Read.{Walked, Readable};
 ghost use Rattle.plates.specs.Listing.{ListingSays};
 use crate::checking::check_read;
 use crate::checking::refused_verdict;
@@ -19,8 +20,10 @@ use crate::reading::read_shape;
 use embedding::Plate;
 use fields::Fields;
 use fields::content;
-use shapes::best::best;
+use shapes::best::BestAnswer;
+use shapes::best::best_by;
 use shapes::judge::judge;
+use shapes::rates::limits_ok;
 
 mod checking;
 mod encoding;
@@ -49,7 +52,16 @@ pub struct Listed {
     pub long: usize,
 }
 
-// Writes the best shape of a plate list to the front of lent memory, or refuses with 1 to 16 and changes nothing.
+// The best shape of an accepted list within its limits, or that no shape keeps them.
+fn best_of(list: &[u8], f: Fields, plate: Plate) -> BestAnswer
+    requires { ⌜ Walked (now list) f × Standing plate ⌝ }
+    ensures { λ r. ⌜ ((p : PlateOf) → Stands plate p → Accepted p → Answers p (rates (limitsOf (now (list .entry))) []) r) ⌝ }
+{
+    let limits = content(list, f, 6);
+    best_by(plate, limits, b"")
+}
+
+// Writes the best shape of a plate list to the front of lent memory, or refuses with the list's number, 24 or 16 and changes nothing.
 pub fn write_shape(list: &[u8], out: &mut [u8]) -> Shaped
     ensures { λ r. ⌜ ShapeSays (now (list .entry)) (now (out .entry)) (now (out .exit)) r ⌝ }
 {
@@ -59,7 +71,11 @@ pub fn write_shape(list: &[u8], out: &mut [u8]) -> Shaped
     }
     let plate = read.plate;
     let fields = read.fields;
-    let shape = best(plate);
+    let answer = best_of(list, fields, plate);
+    if !answer.found {
+        return refused_shape(24);
+    }
+    let shape = answer.shape;
     let darts = plate.darts;
     let angles = shape.angles;
     let rights = shape.rights;
@@ -73,15 +89,18 @@ pub fn write_shape(list: &[u8], out: &mut [u8]) -> Shaped
     )
 }
 
-// The verdict on a shape file that has an angle and right bends for each dart of the plate: 19 to 22, or sound.
-fn check_counts(plate: Plate, shape: &[u8], g: Fields) -> Verdict
-    requires { ⌜ Readable plate (now shape) g ⌝ }
-    ensures { λ r. ⌜ ((s : List ℕ) → listFault s ≡ 0 → shapeFileFault s (now (shape .entry)) ≡ 0 → Stands plate (plateOf s) → Accepted (plateOf s) → CheckSays s (now (shape .entry)) r) ⌝ }
+// The verdict on a shape file that has an angle and right bends for each dart of the plate: 19 to 22, 25, or sound.
+fn check_counts(list: &[u8], f: Fields, plate: Plate, shape: &[u8], g: Fields) -> Verdict
+    requires { ⌜ Readable (now list) f plate (now shape) g ⌝ }
+    ensures { λ r. ⌜ CheckSays (now (list .entry)) (now (shape .entry)) r ⌝ }
 {
     let their_angles = content(shape, g, 2);
     let their_rights = content(shape, g, 3);
     let judged = judge(plate, their_angles, their_rights);
-    let ours = best(plate);
+    let limits = content(list, f, 6);
+    let within = limits_ok(limits, their_rights);
+    let answer = best_of(list, f, plate);
+    let ours = answer.shape;
     let darts = plate.darts;
     let angles = ours.angles;
     let rights = ours.rights;
@@ -89,6 +108,7 @@ fn check_counts(plate: Plate, shape: &[u8], g: Fields) -> Verdict
         shape,
         g,
         judged,
+        within,
         &angles[..darts],
         &rights[..darts],
         ours.total,
@@ -109,7 +129,7 @@ pub fn check_shape(list: &[u8], shape: &[u8]) -> Verdict
         return refused_verdict(g.number);
     }
     let plate = read.plate;
-    check_counts(plate, shape, g)
+    check_counts(list, fields, plate, shape, g)
 }
 
 // Writes the listing of a plate list to the front of lent memory, or refuses with 16 and changes nothing.
@@ -122,7 +142,11 @@ pub fn write_listing(list: &[u8], out: &mut [u8]) -> Listed
     }
     let plate = read.plate;
     let fields = read.fields;
-    let shape = best(plate);
+    let answer = best_of(list, fields, plate);
+    if !answer.found {
+        return list_refused(24, out);
+    }
+    let shape = answer.shape;
     let darts = plate.darts;
     let angles = shape.angles;
     let rights = shape.rights;

@@ -1,8 +1,9 @@
 //! A plate list read: its fields and its plate, or its refusal.
 ghost use mathlib.Core.Path.{_≡_};
+ghost use mathlib.Core.Bool.{false};
 ghost use Rattle.fields.specs.Says.{refusedBy};
 ghost use Rattle.embedding.specs.Read.{blank, Reads};
-ghost use Rattle.plates.specs.Files.{plateOf};
+ghost use Rattle.plates.specs.Files.{walkAll, limitsFit, plateOf};
 ghost use Rattle.plates.specs.Read.{Walked, ListRefused, ReadsList, ReadsShape};
 use embedding::Plate;
 use embedding::Reading;
@@ -43,9 +44,9 @@ fn no_fields(number: u8) -> Fields
 {
     Fields {
         number,
-        at: [0; 6],
-        long: [0; 6],
-        seen: [false; 6],
+        at: [0; 7],
+        long: [0; 7],
+        seen: [false; 7],
     }
 }
 
@@ -74,6 +75,20 @@ fn plate_in(list: &[u8], f: Fields) -> Reading
     read_plate(posts, ends, order, outer)
 }
 
+// Whether the limits of bends, where the list has them, are one for each strip.
+fn limits_fit(list: &[u8], f: Fields) -> bool
+    requires { ⌜ Walked (now list) f ⌝ }
+    ensures { λ r. ⌜ r ≡ limitsFit (walkAll false (now (list .entry)) .fields) ⌝ }
+{
+    let is_there = f.seen[6];
+    let ends = content(list, f, 2);
+    let limits = content(list, f, 6);
+    if is_there {
+        return limits.len() == ends.len() / 2;
+    }
+    true
+}
+
 // The fields and the plate of a list, or its refusal.
 pub fn read_list(list: &[u8]) -> ListRead
     ensures { λ r. ⌜ ReadsList (now (list .entry)) r ⌝ }
@@ -85,6 +100,10 @@ pub fn read_list(list: &[u8]) -> ListRead
     let reading = plate_in(list, fields);
     if reading.number != 0 {
         return refused_list(reading.number);
+    }
+    let is_fit = limits_fit(list, fields);
+    if !is_fit {
+        return refused_list(23);
     }
     let plate = reading.plate;
     ListRead {

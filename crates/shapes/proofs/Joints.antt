@@ -10,9 +10,8 @@ use lib.Dec.{eqb}
 use Rattle.finite.proofs.Order.{Order, less, same, more, order}
 use Rattle.embedding.specs.Plates.{when, Plate, darts, degree}
 use Rattle.shapes.specs.Shapes.{Shape, meets, bends, cornered, comesFirst, straightsFrom, isCornered, corneredFrom}
-use Rattle.shapes.specs.Claims.{Best}
-use Rattle.shapes.specs.Rates.{unrated}
-use Rattle.shapes.specs.Joints.{plainFirst, PlainBest, Straightest, Straight-posts}
+use Rattle.shapes.specs.Rates.{unrated, stripBends, allWithin, BestWithin}
+use Rattle.shapes.specs.Joints.{plainFirst, PlainBest, NoneStraighter, Straightest, Straight-posts}
 use Rattle.shapes.proofs.RatedOrder.{Then, thenTest, test-then, then-test, then-map, byCounts}
 
 -- the two orders, as facts
@@ -32,9 +31,16 @@ module _ (p : Plate) (s u : Shape) where
   then-plain : Then (bends s) (bends u) (counts ≡ true) → plainFirst s u ≡ true
   then-plain = then-test (bends s) (bends u) counts
 
-module _ (p : Plate) (s : Shape) where
-  to-parts : Best p s → Straightest p s
-  to-parts b = record { meets-all = b .meets-all; fewest = b .fewest; fewest-cornered = λ u m e. few u (b .first u m e) e; first = λ u m e c. later u (b .first u m e) e c }
+module _ (p : Plate) (ls : List ℕ) (s : Shape) where
+  to-parts : BestWithin p ls s → Straightest p ls s
+  to-parts b =
+      record {
+        meets-all = b .meets-all;
+        keeps-all = b .keeps-all;
+        fewest = b .fewest;
+        fewest-cornered = λ u m k e. few u (b .first u m k e) e;
+        first = λ u m k e c. later u (b .first u m k e) e c;
+      }
     where
       few : (u : Shape) → (u ≡ s) ⊎ (comesFirst p s u ≡ true) → bends u ≡ bends s → cornered p s ≤ cornered p u
       few u (inl q) e = omega (arith, ap (cornered p) q)
@@ -54,8 +60,8 @@ module _ (p : Plate) (s : Shape) where
           go (inr (d, inl l)) = absurd (omega arith)
           go (inr (d, inr (k, h))) = inr (then-plain p s u (inr (d, h)))
 
-  of-parts : Straightest p s → Best p s
-  of-parts t = record { meets-all = t .meets-all; fewest = t .fewest; first = λ u m e. go u m e (order (cornered p s) (cornered p u)) }
+  of-parts : Straightest p ls s → BestWithin p ls s
+  of-parts t = record { meets-all = t .meets-all; keeps-all = t .keeps-all; fewest = t .fewest; first = λ u m k e. go u m k e (order (cornered p s) (cornered p u)) }
     where
       plain : (u : Shape) → bends u ≡ bends s → cornered p s ≡ cornered p u → (u ≡ s) ⊎ (plainFirst s u ≡ true) → (u ≡ s) ⊎ (comesFirst p s u ≡ true)
       plain u e c (inl q) = inl q
@@ -65,13 +71,13 @@ module _ (p : Plate) (s : Shape) where
           by (inl l) = absurd (omega arith)
           by (inr (d, h)) = inr (then-first p s u (inr (d, inr (c, h))))
 
-      go : (u : Shape) → meets p u ≡ true → bends u ≡ bends s → Order (cornered p s) (cornered p u) → (u ≡ s) ⊎ (comesFirst p s u ≡ true)
-      go u m e (less l) = inr (then-first p s u (inr (sym e, inl l)))
-      go u m e (same c) = plain u e c (t .first u m e (sym c))
-      go u m e (more l) = absurd (omega (arith, t .fewest-cornered u m e))
+      go : (u : Shape) → meets p u ≡ true → allWithin ls (stripBends u) ≡ true → bends u ≡ bends s → Order (cornered p s) (cornered p u) → (u ≡ s) ⊎ (comesFirst p s u ≡ true)
+      go u m k e (less l) = inr (then-first p s u (inr (sym e, inl l)))
+      go u m k e (same c) = plain u e c (t .first u m k e (sym c))
+      go u m k e (more l) = absurd (omega (arith, t .fewest-cornered u m k e))
 
-  kept : PlainBest p s → ((u : Shape) → meets p u ≡ true → bends u ≡ bends s → cornered p s ≤ cornered p u) → Best p s
-  kept b few = of-parts (record { meets-all = b .meets-all; fewest = b .fewest; fewest-cornered = few; first = λ u m e c. b .first u m e })
+  kept : PlainBest p ls s → NoneStraighter p ls s → BestWithin p ls s
+  kept b few = of-parts (record { meets-all = b .meets-all; keeps-all = b .keeps-all; fewest = b .fewest; fewest-cornered = few; first = λ u m k e c. b .first u m k e })
 
 -- without joints
 module _ (p : Plate) (none : (v : ℕ) → v < p .posts → degree p v ≡ 2 → ⊥) where
@@ -84,11 +90,11 @@ module _ (p : Plate) (none : (v : ℕ) → v < p .posts → degree p v ≡ 2 →
   no-cornered : (s : Shape) → cornered p s ≡ 0
   no-cornered s = from-none (p .posts) 0 (s .angles) (omega arith)
 
-  same-best : (s : Shape) → PlainBest p s ↔ Best p s
-  same-best s = (
-    λ b. kept p s b (λ u m e. omega (arith, no-cornered s)),
-    λ b. let t = to-parts p s b in record { meets-all = t .meets-all; fewest = t .fewest; first = λ u m e. t .first u m e (no-cornered u ∙ sym (no-cornered s)) },
+  same-best : (ls : List ℕ) (s : Shape) → PlainBest p ls s ↔ BestWithin p ls s
+  same-best ls s = (
+    λ b. kept p ls s b (λ u m k e. omega (arith, no-cornered s)),
+    λ b. let t = to-parts p ls s b in record { meets-all = t .meets-all; keeps-all = t .keeps-all; fewest = t .fewest; first = λ u m k e. t .first u m k e (no-cornered u ∙ sym (no-cornered s)) },
   )
 
 pub straight-posts : Straight-posts
-straight-posts = record { in-parts = λ p s. (to-parts p s, of-parts p s); kept = kept; no-joint = same-best }
+straight-posts = record { in-parts = λ p ls s. (to-parts p ls s, of-parts p ls s); kept = kept; no-joint = same-best }

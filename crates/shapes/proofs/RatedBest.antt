@@ -1,5 +1,5 @@
 -- The least flow with limits and prices is the best shape's; a cut says that no shape keeps the limits; without limits some shape is always there.
-use mathlib.Core.Path.{_≡_, sym, ap, _∙_}
+use mathlib.Core.Path.{_≡_, refl, sym, ap, _∙_}
 use mathlib.Core.Bool.{true}
 use mathlib.Core.List.{List, [], _++_}
 use Prim.Native.Nat.{ℕ}
@@ -17,7 +17,7 @@ use Rattle.shapes.specs.NetworkOf.{isJoint, ratedOf}
 use Rattle.shapes.proofs.FlowFacts.{is-flow-parts}
 use Rattle.shapes.proofs.Tamassia.{shape-flow, flow-shape}
 use Rattle.shapes.proofs.SomeFlow.{some-corners, some-units, some-flow}
-use Rattle.shapes.proofs.Strips.{unlimited}
+use Rattle.shapes.proofs.Strips.{free-within}
 use Rattle.shapes.proofs.Apart.{apart-whole}
 use Rattle.shapes.proofs.RatedSound.{rated-sound}
 use Rattle.shapes.proofs.RatedShapes.{rights-count, shape-within, counts-keep}
@@ -91,4 +91,4 @@ module _ (p : Plate) (f : Faultless p) (o : Ordered p) (ps : List ℕ) where
   pub some-meets : (u : Shape) × (meets p u ≡ true) × (keeps (rates [] ps) u ≡ true)
   some-meets =
       let u = shapeOf p (some-corners p f o) (some-units p f o) in
-      (u, flow-shape p o (some-corners p f o) (some-units p f o) (some-flow p f o), unlimited (stripBends u))
+      (u, flow-shape p o (some-corners p f o) (some-units p f o) (some-flow p f o), free-within [] (stripBends u) refl)

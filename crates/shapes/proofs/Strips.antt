@@ -15,7 +15,7 @@ use Rattle.finite.proofs.Tests.{or-cases, or-left, or-right, and-left, and-righ
 use Rattle.embedding.specs.Plates.{twin}
 use Rattle.embedding.proofs.Rotation.{twin-cases}
 use Rattle.shapes.specs.Shapes.{total}
-use Rattle.shapes.specs.Rates.{pairSums, allWithin, pricedSum}
+use Rattle.shapes.specs.Rates.{pairSums, allWithin, allFree, pricedSum}
 use Rattle.shapes.proofs.Pairs.{sums-at, sums-long}
 
 -- the price of a bend on dart d
@@ -43,10 +43,12 @@ pub unpriced : (bs : List ℕ) → pricedSum [] bs ≡ total bs
 unpriced [] = refl
 unpriced (b ∷ bs) = omega (arith, unpriced bs)
 
--- with no limits all is within
-pub unlimited : (bs : List ℕ) → allWithin [] bs ≡ true
-unlimited [] = refl
-unlimited (b ∷ bs) = unlimited bs
+-- where limits are none all is within
+pub free-within : (ls bs : List ℕ) → allFree ls ≡ true → allWithin ls bs ≡ true
+free-within ls [] e = refl
+free-within [] (b ∷ bs) e = free-within [] bs refl
+free-within (l ∷ ls) (b ∷ bs) e =
+    and-both _ _ (or-left (leb 255 l) (leb b l) (and-left (leb 255 l) (allFree ls) e)) (free-within ls bs (and-right (leb 255 l) (allFree ls) e))
 
 -- a limit that is none or is kept
 abbrev pub Within : ℕ → ℕ → Type 0
@@ -62,13 +64,13 @@ test-within l b (inr h) = or-right (leb 255 l) (leb b l) (le-leb b l h)
 next-limit : (ls : List ℕ) (i : ℕ) → getD (drop 1 ls) i 255 ≡ getD ls (suc i) 255
 next-limit ls i = let q : 1 + i ≡ suc i = omega arith in getD-drop 1 ls i 255 ∙ ap (λ (k : ℕ). getD ls k 255) q
 
-all-each : (ls bs : List ℕ) → allWithin ls bs ≡ true → (i : ℕ) → i < length bs → Within (getD ls i 255) (getD bs i 0)
+pub all-each : (ls bs : List ℕ) → allWithin ls bs ≡ true → (i : ℕ) → i < length bs → Within (getD ls i 255) (getD bs i 0)
 all-each ls [] e i l = absurd (omega arith)
 all-each ls (b ∷ bs) e zero l = within-test (getD ls 0 255) b (and-left (leb 255 (getD ls 0 255) || leb b (getD ls 0 255)) (allWithin (drop 1 ls) bs) e)
 all-each ls (b ∷ bs) e (suc i) l =
     subst (λ (k : ℕ). Within k (getD bs i 0)) (next-limit ls i) (all-each (drop 1 ls) bs (and-right (leb 255 (getD ls 0 255) || leb b (getD ls 0 255)) (allWithin (drop 1 ls) bs) e) i (le-of-suc-le-suc l))
 
-each-all : (ls bs : List ℕ) → ((i : ℕ) → i < length bs → Within (getD ls i 255) (getD bs i 0)) → allWithin ls bs ≡ true
+pub each-all : (ls bs : List ℕ) → ((i : ℕ) → i < length bs → Within (getD ls i 255) (getD bs i 0)) → allWithin ls bs ≡ true
 each-all ls [] h = refl
 each-all ls (b ∷ bs) h =
     and-both (leb 255 (getD ls 0 255) || leb b (getD ls 0 255)) (allWithin (drop 1 ls) bs) (test-within (getD ls 0 255) b (h 0 (omega arith)))

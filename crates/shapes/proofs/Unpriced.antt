@@ -1,13 +1,13 @@
 -- With no prices the sum is the total of bends, and with no limits either the best shape is that of `Best`.
-use mathlib.Core.Path.{_≡_, sym, ap, ap₂, subst, _∙_}
+use mathlib.Core.Path.{_≡_, refl, sym, ap, ap₂, subst, _∙_}
 use mathlib.Core.Bool.{Bool, true, _&&_, _||_}
 use mathlib.Core.List.{List, [], _++_}
-use mathlib.Core.Logic.{_⊎_, inl, inr}
+use mathlib.Core.Logic.{_↔_, _⊎_, inl, inr}
 use Prim.Native.Nat.{ℕ, suc, _+_, _<_}
 use native.Mathlib.Omega.{arith}
 use borrow.Author.Tests.{lt-ltb, le-ltb, eq-eqb, ne-eqb}
 use lib.Dec.{eqb, ltb}
-use lib.ListN.{getD, take, drop}
+use lib.ListN.{length, getD, take, drop}
 use lib.Seq.{take-at, drop-at}
 use Rattle.finite.proofs.Order.{Order, less, same, more, order}
 use Rattle.flow.specs.Network.{Flow, Least}
@@ -16,12 +16,12 @@ use Rattle.embedding.proofs.Rotation.{Ordered, twin-even}
 use Rattle.embedding.proofs.Faultless.{Faultless}
 use Rattle.shapes.specs.Shapes.{Shape, meets, bends, cornered, comesFirst, rights, lefts, nthW, rightsOf, shapeOf}
 use Rattle.shapes.specs.Claims.{Best, isFlow}
-use Rattle.shapes.specs.Rates.{rates, unrated, Fair, pairSums, price, stripBends, comesFirstBy, BestBy, BestWithin}
+use Rattle.shapes.specs.Rates.{rates, unrated, allWithin, allFree, Fair, pairSums, price, stripBends, comesFirstBy, BestBy, BestWithin}
 use Rattle.shapes.specs.NetworkOf.{isJoint, ratedOf}
-use Rattle.shapes.proofs.Words.{rights-at}
+use Rattle.shapes.proofs.Words.{rights-at, rights-long}
 use Rattle.shapes.proofs.Meets.{meets-facts, lefts-at}
-use Rattle.shapes.proofs.Pairs.{sums-at, sums-total}
-use Rattle.shapes.proofs.Strips.{unpriced, unlimited}
+use Rattle.shapes.proofs.Pairs.{sums-at, sums-long, sums-total}
+use Rattle.shapes.proofs.Strips.{unpriced, free-within, Within, all-each, each-all}
 use Rattle.shapes.proofs.FlowFacts.{is-flow-parts}
 use Rattle.shapes.proofs.Apart.{apart, apart-whole}
 use Rattle.shapes.proofs.RatedOrder.{byCounts}
@@ -75,22 +75,24 @@ module _ (ls : List ℕ) where
         go u (inl q) = inl q
         go u (inr q) = inr (sym (first-same p s u) ∙ q)
 
+-- where limits are none
+module _ (ls : List ℕ) (free : allFree ls ≡ true) {p : Plate} {s : Shape} where
+  pub free-best : BestWithin p ls s → Best p s
+  free-best b = record { meets-all = b .meets-all; fewest = λ u m. b .fewest u m (free-within ls (stripBends u) free); first = λ u m. b .first u m (free-within ls (stripBends u) free) }
+
+  pub best-free : Best p s → BestWithin p ls s
+  best-free b = record { meets-all = b .meets-all; keeps-all = free-within ls (stripBends s) free; fewest = λ u m k. b .fewest u m; first = λ u m k. b .first u m }
+
 -- without limits
 module _ {p : Plate} {s : Shape} where
-  pub best-within : Best p s → BestWithin p [] s
-  best-within b = record { meets-all = b .meets-all; keeps-all = unlimited (stripBends s); fewest = λ u m k. b .fewest u m; first = λ u m k. b .first u m }
-
-  pub within-best : BestWithin p [] s → Best p s
-  within-best b = record { meets-all = b .meets-all; fewest = λ u m. b .fewest u m (unlimited (stripBends u)); first = λ u m. b .first u m (unlimited (stripBends u)) }
-
   pub best-by : Best p s → BestBy p unrated s
-  best-by b = by-within [] (best-within b)
+  best-by b = by-within [] (best-free [] refl b)
 
   pub by-best : BestBy p unrated s → Best p s
-  by-best b = within-best (within-by [] b)
+  by-best b = free-best [] refl (within-by [] b)
 
 -- the bends of a strip are the right and the left bends in the word of its even dart
-pub strip-word : (p : Plate) (s : Shape) → meets p s ≡ true → (i : ℕ) → i + i < darts p → getD (stripBends s) i 0 ≡ rights (nthW (s .words) (i + i)) + lefts (nthW (s .words) (i + i))
+strip-word : (p : Plate) (s : Shape) → meets p s ≡ true → (i : ℕ) → i + i < darts p → getD (stripBends s) i 0 ≡ rights (nthW (s .words) (i + i)) + lefts (nthW (s .words) (i + i))
 strip-word p s m i l =
     let t : twin (i + i) ≡ suc (i + i) = twin-even (i + i) (omega arith) in
     omega (
@@ -100,6 +102,17 @@ strip-word p s m i l =
       lefts-at (darts p) (s .words) (meets-facts p s m .twins) (i + i) l,
       ap (λ (k : ℕ). getD (rightsOf (s .words)) k 0) t,
     )
+
+-- so limits are kept exactly where the word of each of the n strips keeps its own
+pub each-strip : (p : Plate) (s : Shape) → meets p s ≡ true → (n : ℕ) → n + n ≡ darts p → (ls : List ℕ)
+    → (allWithin ls (stripBends s) ≡ true) ↔ ((i : ℕ) → i < n → Within (getD ls i 255) (rights (nthW (s .words) (i + i)) + lefts (nthW (s .words) (i + i))))
+each-strip p s m n e ls = (
+  λ h i l. subst (Within (getD ls i 255)) (strip-word p s m i (omega arith)) (all-each ls (stripBends s) h i (omega (arith, long))),
+  λ h. each-all ls (stripBends s) (λ i l. subst (Within (getD ls i 255)) (sym (strip-word p s m i (omega (arith, long)))) (h i (omega (arith, long)))),
+)
+  where
+    long : length (stripBends s) ≡ n
+    long = sums-long n (rightsOf (s .words)) (rights-long (s .words) ∙ meets-facts p s m .words-long ∙ sym e)
 
 -- counts that are a flow of document 01's network are one here, with each corner on its two arcs; where it is the least they are the best shape's
 module _ (p : Plate) (o : Ordered p) (cs xs : List ℕ) (e : isFlow p cs xs ≡ true) where

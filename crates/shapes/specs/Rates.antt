@@ -36,11 +36,17 @@ pairSums [] = []
 pairSums (a ∷ []) = a ∷ []
 pairSums (a ∷ (b ∷ xs)) = (a + b) ∷ pairSums xs
 
--- bends of strips in turn: none passes its limit; times their prices, together
+-- bends of strips in turn: none passes its limit
 abbrev pub allWithin : List ℕ → List ℕ → Bool
 allWithin ls [] = true
 allWithin ls (b ∷ bs) = (leb 255 (getD ls 0 255) || leb b (getD ls 0 255)) && allWithin (drop 1 ls) bs
 
+-- limits that are none
+abbrev pub allFree : List ℕ → Bool
+allFree [] = true
+allFree (l ∷ ls) = leb 255 l && allFree ls
+
+-- bends of strips in turn times their prices, together
 abbrev pub pricedSum : List ℕ → List ℕ → ℕ
 pricedSum ps [] = 0
 pricedSum ps (b ∷ bs) = getD ps 0 1 * b + pricedSum (drop 1 ps) bs

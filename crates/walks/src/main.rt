@@ -49,7 +49,7 @@ fn zeros(out: &mut [u8], at: usize, tag: u8, long: usize) -> usize
     write_field(out, at, tag, &content[..long])
 }
 
-fn long_list(label: &[u8], strips: usize, order: usize, remark: usize) {
+fn long_list(label: &[u8], strips: usize, order: usize, remark: usize, limits: usize) {
     let mut s = io::buffer();
     let mut at = zeros(&mut s, 0, 0x01, 2);
     at = zeros(&mut s, at, 0x02, 1);
@@ -57,6 +57,7 @@ fn long_list(label: &[u8], strips: usize, order: usize, remark: usize) {
     at = zeros(&mut s, at, 0x04, order);
     at = zeros(&mut s, at, 0x05, 1);
     at = zeros(&mut s, at, 0x06, remark);
+    at = zeros(&mut s, at, 0x07, limits);
     list(label, &s[..at]);
 }
 
@@ -79,7 +80,7 @@ fn list_ends() {
     // Two bytes remain.
     list(b"two bytes", b"\x01\x00");
     // 1 comes before 2.
-    list(b"other tag, two bytes", b"\x07\x00");
+    list(b"other tag, two bytes", b"\x08\x00");
     // Every field but the remark, in tag order; none remains.
     list(
         b"P1",
@@ -104,7 +105,7 @@ fn list_tags() {
     // Below the first tag.
     list(b"tag 00", b"\x00\x00\x00");
     // Behind the last tag.
-    list(b"tag 07", b"\x07\x00\x00");
+    list(b"tag 08", b"\x08\x00\x00");
     // A tag of the shape file.
     list(b"tag 11", b"\x11\x00\x02\x00\x07");
     // 2 comes before 4 and 5.
@@ -243,9 +244,9 @@ fn list_below() {
 // Two faults in one list: the earlier place counts.
 fn list_two() {
     // A length, then a tag.
-    list(b"4, then 2", b"\x02\x00\x02\x01\x01\x07\x00\x00");
+    list(b"4, then 2", b"\x02\x00\x02\x01\x01\x08\x00\x00");
     // A tag, then one byte.
-    list(b"2, then 1", b"\x07\x00\x00\x01");
+    list(b"2, then 1", b"\x08\x00\x00\x01");
     // A tag met before, then one byte.
     list(
         b"3, then 1",
@@ -355,20 +356,22 @@ fn shape_lengths() {
     );
 }
 
-// Limits of a list: contents of zeros, of these lengths for strips, order and remark.
+// Limits of a list: contents of zeros, of these lengths for strips, order, remark and limits of bends.
 fn long_lists() {
-    // The longest list, 614 bytes.
-    long_list(b"256 256 80", 256, 256, 80);
+    // The longest list, 745 bytes.
+    long_list(b"256 256 80 128", 256, 256, 80, 128);
     // A remark of 81 bytes.
-    long_list(b"256 256 81", 256, 256, 81);
+    long_list(b"256 256 81 128", 256, 256, 81, 128);
     // Strips of odd length.
-    long_list(b"257 256 80", 257, 256, 80);
+    long_list(b"257 256 80 128", 257, 256, 80, 128);
     // Strips over 256 bytes.
-    long_list(b"258 256 80", 258, 256, 80);
+    long_list(b"258 256 80 128", 258, 256, 80, 128);
     // An order over 256 bytes.
-    long_list(b"256 257 80", 256, 257, 80);
+    long_list(b"256 257 80 128", 256, 257, 80, 128);
     // An order of odd length.
-    long_list(b"256 255 80", 256, 255, 80);
+    long_list(b"256 255 80 128", 256, 255, 80, 128);
+    // Limits of 129 bytes.
+    long_list(b"256 256 80 129", 256, 256, 80, 129);
 }
 
 // Limits of a shape: contents of zeros, of these lengths for angles, right bends and remark.

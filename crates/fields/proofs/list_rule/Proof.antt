@@ -24,17 +24,21 @@ returns-5 : tie.Need-returns-5
 returns-5 c = rule-is false _ _ (ap listRule (sym (c .match .keys5)))
 
 returns-6 : tie.Need-returns-6
-returns-6 c =
+returns-6 c = rule-is false _ _ (ap listRule (sym (c .match .keys6)))
+
+returns-7 : tie.Need-returns-7
+returns-7 c =
     let t = c .before .args .tag in
     let no = c .match .rest in
     rule-is false t _ (simp (
-      ne-eqb t 1 (no .0 .0 .0 .0 .1),
-      ne-eqb t 2 (λ e. no .0 .0 .0 .1 (inl e)),
-      ne-eqb t 5 (λ e. no .0 .0 .0 .1 (inr e)),
-      ne-eqb t 3 (no .0 .0 .1),
-      ne-eqb t 4 (no .0 .1),
-      ne-eqb t 6 (no .1),
+      ne-eqb t 1 (no .0 .0 .0 .0 .0 .1),
+      ne-eqb t 2 (λ e. no .0 .0 .0 .0 .1 (inl e)),
+      ne-eqb t 5 (λ e. no .0 .0 .0 .0 .1 (inr e)),
+      ne-eqb t 3 (no .0 .0 .0 .1),
+      ne-eqb t 4 (no .0 .0 .1),
+      ne-eqb t 6 (no .0 .1),
+      ne-eqb t 7 (no .1),
     ))
 
 pub list-rule-spec : {M : Type 1} → statement M
-list-rule-spec = tie.close (tie.spec returns returns-2 returns-3 returns-4 returns-5 returns-6)
+list-rule-spec = tie.close (tie.spec returns returns-2 returns-3 returns-4 returns-5 returns-6 returns-7)

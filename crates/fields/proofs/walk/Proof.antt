@@ -62,7 +62,7 @@ met-here : (c : tie.After-known-told2 Inv-loop μ-loop) →
     let w = c .before .before .before .before .before .before .before .loop in
     let i = c .before .front2 .given .0 .0 in
     let n = c .before .front2 .given .0 .1 .0 in
-    (i < 6) × (w .next + 3 + n ≤ length (a .s .now)) × Going (a .in-order) (a .shape) (a .s .now) (set (w .at) i (w .next + 3)) (set (w .long) i n) (set (w .seen) i true) (pick (a .in-order) (getD (a .s .now) (w .next) 0) 0) (w .next + 3 + n)
+    (i < 7) × (w .next + 3 + n ≤ length (a .s .now)) × Going (a .in-order) (a .shape) (a .s .now) (set (w .at) i (w .next + 3)) (set (w .long) i n) (set (w .seen) i true) (pick (a .in-order) (getD (a .s .now) (w .next) 0) 0) (w .next + 3 + n)
 met-here c =
     let a = c .before .before .before .before .before .before .before .before .before .args in
     let w = c .before .before .before .before .before .before .before .loop in

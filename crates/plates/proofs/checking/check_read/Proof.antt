@@ -32,7 +32,7 @@ verdict-requires c κs = search needs
 
 returns : tie.Need-returns
 returns c =
-    verdict-read (c .before .before .before .before .before .before .before .before .before .before .before .pre) (c .before .before .before .before .before .before .before .before .before .before .before .args .judged) (c .before .before .before .before .before .before .before .before .before .before .before .args .fewest) (c .before .before .before .before .before .before .before .before .before .before .before .args .angles .now) (c .before .before .before .before .before .before .before .before .before .before .before .args .rights .now) (c .before .before .before .before .before .before .before .content .result .now) (c .before .before .before .before .before .before .content2 .result .now) (c .before .before .before .before .before .number-of .result) (c .before .before .before .before .total-of .result)
+    verdict-read (c .before .before .before .before .before .before .before .before .before .before .before .pre) (c .before .before .before .before .before .before .before .before .before .before .before .args .judged) (c .before .before .before .before .before .before .before .before .before .before .before .args .fewest) (c .before .before .before .before .before .before .before .before .before .before .before .args .within) (c .before .before .before .before .before .before .before .before .before .before .before .args .angles .now) (c .before .before .before .before .before .before .before .before .before .before .before .args .rights .now) (c .before .before .before .before .before .before .before .content .result .now) (c .before .before .before .before .before .before .content2 .result .now) (c .before .before .before .before .before .number-of .result) (c .before .before .before .before .total-of .result)
     (c .verdict .result) (c .before .before .before .is-same .result) (c .before .before .is-same2 .result) (c .before .both .result)
     (c .before .before .before .before .before .before .before .content .ensures) (c .before .before .before .before .before .before .content2 .ensures) (c .before .before .before .before .before .number-of .ensures) (c .before .before .before .before .total-of .ensures) (c .before .before .before .is-same .ensures) (c .before .before .is-same2 .ensures) (c .before .both .ensures) (c .verdict .ensures)
 
