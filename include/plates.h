@@ -37,7 +37,7 @@ enum plates_refusal {
     PLATES_TAG_ORDER = 29,         /* tag below the previous one */
     PLATES_FIELD_LENGTH = 4,       /* length not as laid out */
     PLATES_CONTENT_CUT = 5,        /* content passes the end */
-    PLATES_FIELD_ABSENT = 6,       /* a field other than the remark is absent */
+    PLATES_FIELD_ABSENT = 6,       /* a field other than remark and limits is absent */
 
     /* plate list */
     PLATES_POST_COUNT = 7,         /* no post, or over 64 */
@@ -50,8 +50,10 @@ enum plates_refusal {
     PLATES_OUTER_DART = 13,        /* outer dart is not a dart */
     PLATES_NOT_CONNECTED = 14,     /* not in one piece */
     PLATES_NOT_PLANE = 15,         /* connected, not plane */
+    PLATES_LIMITS_LENGTH = 23,     /* limits are not one per strip */
 
     /* writing */
+    PLATES_NO_SHAPE_WITHIN = 24,   /* shaping only: no shape keeps the limits */
     PLATES_MEMORY_SHORT = 16,      /* lent memory shorter than the result */
 
     /* shape file */
@@ -61,6 +63,7 @@ enum plates_refusal {
     PLATES_ANGLES_AT_POST = 20,    /* angles at some post do not add to 4 */
     PLATES_TURNS_OF_FACE = 21,     /* turns of some face do not add to +4, outer -4 */
     PLATES_TOTAL_DIFFERS = 22,     /* total is not the sum of the right bends */
+    PLATES_LIMIT_PASSED = 25,      /* a strip has more bends than its limit */
 
     /* book of entries: all three at one entry before the next entry */
     PLATES_ENTRY_CUT = 40,         /* the last entry has under six bytes */
@@ -72,28 +75,31 @@ enum plates_refusal {
 /* Writes the best shape of a plate list to the front of `out`.
  *
  * 0: the first *long_ bytes of `out` are the shape file and the bytes behind
- * them are as before; *bends is its total bends. The shape meets H1 to H4,
- * and it comes first among all shapes of the plate: fewest bends, then fewest
- * posts with exactly two strip ends and no angle of 2, then the smaller right
- * bends of darts 0, 1, 2 and so on, then the smaller angles.
+ * them are as before; *bends is its total bends. The shape meets H1 to H4 and
+ * keeps the limits of field 07, if the list has it: the most bends of each
+ * strip, or 255 for no limit. It comes first among all such shapes of the
+ * plate: fewest bends, then fewest posts with exactly two strip ends and no
+ * angle of 2, then the smaller right bends of darts 0, 1, 2 and so on, then
+ * the smaller angles.
  * *long_ is 16 + 4 * strips, plus 3 and the remark's length if there is one;
- * 611 bytes are always enough.
+ * 611 bytes are always enough. No accepted list is longer than 745 bytes.
  *
- * 1 to 15, 29: the plate list is refused. 16: out_len is less than the length
- * of the shape. On a refusal `out` is unchanged; *long_ and *bends are 0. */
+ * 1 to 15, 23, 29: the plate list is refused. 24: no shape keeps its limits;
+ * never for a list without field 07. 16: out_len is less than the length of
+ * the shape. On a refusal `out` is unchanged; *long_ and *bends are 0. */
 uint8_t plates_write_shape(const uint8_t *list, size_t list_len,
                            uint8_t *out, size_t out_len,
                            uint32_t *long_, uint32_t *bends);
 
 /* Gives a verdict on a shape file against a plate list.
  *
- * 0: the shape meets H1 to H4. *total is its total bends, *fewest the least
- * total bends of all shapes of the plate, and *ours says whether its angles
- * and right bends are those that plates_write_shape writes.
+ * 0: the shape meets H1 to H4 and keeps the limits. *total is its total bends,
+ * *fewest the least total bends of all such shapes of the plate, and *ours says
+ * whether its angles and right bends are those that plates_write_shape writes.
  *
- * 1 to 15, 29: the plate list is refused. 1 to 6 and 29 also: the shape file
- * is refused, after the plate list was accepted. 17 to 22: as in the table.
- * Never 16.
+ * 1 to 15, 23, 29: the plate list is refused. 1 to 6 and 29 also: the shape
+ * file is refused, after the plate list was accepted. 17 to 22, 25: as in the
+ * table. Never 16 or 24.
  * On a refusal *total and *fewest are 0 and *ours is false. */
 uint8_t plates_check_shape(const uint8_t *list, size_t list_len,
                            const uint8_t *shape, size_t shape_len,
@@ -104,8 +110,9 @@ uint8_t plates_check_shape(const uint8_t *list, size_t list_len,
  * 0: the first *long_ bytes of `out` are the text and the bytes behind them
  * are as before. For an accepted list the text has the lines "revision R",
  * "bends B" and, for each dart, "dart D right R angle A"; for a list refused
- * with N (1 to 15, 29) it has the one line "refused N". Each line ends with a
- * line feed, and there is no null byte.
+ * with N (1 to 15, 23, 29), or with 24 where no shape keeps its limits, it has
+ * the one line "refused N". Each line ends with a line feed, and there is no
+ * null byte.
  *
  * 16: out_len is less than the length of the text; `out` is unchanged and
  * *long_ is 0. No other number is returned. */

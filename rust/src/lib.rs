@@ -53,12 +53,12 @@ pub struct Shape {
     pub bends: u32,
 }
 
-/// The verdict on a shape that meets the conditions.
+/// The verdict on a shape that meets the conditions and keeps the limits.
 #[derive(Clone, Copy, Debug, PartialEq, Eq)]
 pub struct Verdict {
     /// The shape file's total bends.
     pub total: u32,
-    /// The least total bends of all shapes of the plate.
+    /// The least total bends of all shapes of the plate that keep the limits.
     pub fewest: u32,
     /// Whether angles and right bends are those that [`write_shape`] writes.
     pub ours: bool,
@@ -68,13 +68,18 @@ pub struct Verdict {
 ///
 /// The best shape has the fewest bends; among equal totals it has the fewest
 /// posts with exactly two strip ends and no angle of 2, then the smaller right
-/// bends of darts 0, 1, 2 and so on, then the smaller angles. Its length is
-/// 16 + 4 · strips, plus 3 and the remark's length where there is a remark.
-/// The bytes of `out` behind the shape stay as they are.
+/// bends of darts 0, 1, 2 and so on, then the smaller angles. Where the list
+/// has field 07, with the most bends of each strip or 255 for no limit, it is
+/// the best of the shapes within these limits. Its length is 16 + 4 · strips,
+/// plus 3 and the remark's length where there is a remark. The bytes of `out`
+/// behind the shape stay as they are. No accepted list is longer than 745
+/// bytes.
 ///
 /// # Errors
-/// Refusals 1 to 15 and 29 for the plate list, and [`Refusal::MemoryShort`]
-/// where `out` is shorter than the shape. On a refusal `out` is unchanged.
+/// Refusals 1 to 15, 23 and 29 for the plate list, then
+/// [`Refusal::NoShapeWithin`] where no shape keeps its limits, never for a list
+/// without field 07, then [`Refusal::MemoryShort`] where `out` is shorter than
+/// the shape. On a refusal `out` is unchanged.
 ///
 /// ```
 /// use plates::{write_shape, Refusal};
@@ -88,6 +93,15 @@ pub struct Verdict {
 /// assert_eq!(out, [0xee; 30]);
 /// assert_eq!(write_shape(&list, &mut out).unwrap().length, 24);
 /// assert_eq!(out[24..], [0xee; 6]);
+///
+/// // Without limits both bends are on strip 1. With at most one on each strip,
+/// // darts 0 and 3 have one; with none on strip 0 as well, there is no shape.
+/// let within = |limits: [u8; 2]| [&list[..], &[0x07, 0, 2], &limits].concat();
+/// assert_eq!(out[20..24], [0, 0, 0, 2]);
+/// assert_eq!(write_shape(&within([1, 1]), &mut out).unwrap().bends, 2);
+/// assert_eq!(out[20..24], [1, 0, 0, 1]);
+/// let none = write_shape(&within([0, 1]), &mut out);
+/// assert_eq!(none, Err(Refusal::NoShapeWithin));
 /// ```
 pub fn write_shape(list: &[u8], out: &mut [u8]) -> Result<Shape, Refusal> {
     let mut length = 0;
@@ -111,8 +125,8 @@ pub fn write_shape(list: &[u8], out: &mut [u8]) -> Result<Shape, Refusal> {
 /// Gives a verdict on a shape file against a plate list.
 ///
 /// # Errors
-/// Refusals 1 to 15 and 29 for the plate list; then 1 to 6, 29 and 17 to 22 for
-/// the shape file. Never 16.
+/// Refusals 1 to 15, 23 and 29 for the plate list; then 1 to 6, 29, 17 to 22
+/// and 25 for the shape file. Never 16 or 24.
 ///
 /// ```
 /// use plates::{check_shape, Refusal, Verdict};
@@ -127,6 +141,8 @@ pub fn write_shape(list: &[u8], out: &mut [u8]) -> Result<Shape, Refusal> {
 /// ];
 /// let sound = Verdict { total: 2, fewest: 2, ours: true };
 /// assert_eq!(check_shape(&list, &shape), Ok(sound));
+/// let limited = [&list[..], &[0x07, 0, 2, 255, 1]].concat();
+/// assert_eq!(check_shape(&limited, &shape), Err(Refusal::LimitPassed));
 /// shape[9] = 3;
 /// assert_eq!(check_shape(&list, &shape), Err(Refusal::TotalDiffers));
 /// ```
@@ -158,8 +174,9 @@ pub fn check_shape(list: &[u8], shape: &[u8]) -> Result<Verdict, Refusal> {
 /// gives its length.
 ///
 /// The text of an accepted list is its revision, the total bends and a line
-/// for each dart; that of a list refused with N is "refused N". The bytes of
-/// `out` behind the text stay as they are.
+/// for each dart; that of a list refused with N, or with 24 where no shape
+/// keeps its limits, is "refused N". The bytes of `out` behind the text stay as
+/// they are.
 ///
 /// # Errors
 /// Only [`Refusal::MemoryShort`], where `out` is shorter than the text; `out`
@@ -343,7 +360,7 @@ pub enum Refusal {
     FieldLength = 4,
     /// A field's content passes the end.
     ContentCut = 5,
-    /// A field other than the remark is absent.
+    /// A field other than the remark and the limits is absent.
     FieldAbsent = 6,
     /// No post, or over 64.
     PostCount = 7,
@@ -376,6 +393,12 @@ pub enum Refusal {
     TurnsOfFace = 21,
     /// The total differs from the sum of the right bends.
     TotalDiffers = 22,
+    /// The limits are not one for each strip.
+    LimitsLength = 23,
+    /// No shape of the plate keeps the limits.
+    NoShapeWithin = 24,
+    /// A strip has more bends than its limit.
+    LimitPassed = 25,
     /// A tag is below the previous one.
     TagOrder = 29,
     /// The last entry of a book has under six bytes.
@@ -389,7 +412,7 @@ pub enum Refusal {
 
 impl Refusal {
     /// Every refusal, by rising number.
-    pub const ALL: [Refusal; 25] = [
+    pub const ALL: [Refusal; 28] = [
         Refusal::FieldCut,
         Refusal::UnknownTag,
         Refusal::RepeatedTag,
@@ -411,13 +434,16 @@ impl Refusal {
         Refusal::AnglesAtPost,
         Refusal::TurnsOfFace,
         Refusal::TotalDiffers,
+        Refusal::LimitsLength,
+        Refusal::NoShapeWithin,
+        Refusal::LimitPassed,
         Refusal::TagOrder,
         Refusal::EntryCut,
         Refusal::RevisionListed,
         Refusal::NotCurrent,
     ];
 
-    /// Its number: 1 to 22, never 10, or 40 to 42.
+    /// Its number: 1 to 25, never 10, or 29, or 40 to 42.
     pub fn number(self) -> u8 {
         self as u8
     }
@@ -462,6 +488,9 @@ impl Refusal {
             Refusal::AnglesAtPost => "the angles round a post do not add to a full turn",
             Refusal::TurnsOfFace => "the boundary of a face does not close",
             Refusal::TotalDiffers => "the total given is not the number of bends in the shape",
+            Refusal::LimitsLength => "the limits must give one number of bends for each strip",
+            Refusal::NoShapeWithin => "the plate has no shape within the limits of its strips",
+            Refusal::LimitPassed => "a strip has more bends than its limit",
             Refusal::TagOrder => "the fields are not in the order of their tags",
             Refusal::EntryCut => "the book ends in the middle of an entry",
             Refusal::RevisionListed => "an entry's revision is 0 or already listed for its model",
@@ -488,7 +517,7 @@ mod tests {
     fn numbers_and_refusals_agree() {
         for number in 0..=255 {
             let refusal = Refusal::from_number(number);
-            let given = matches!(number, 0..=9 | 11..=22 | 29 | 40..=42);
+            let given = matches!(number, 0..=9 | 11..=25 | 29 | 40..=42);
             assert_eq!(refusal.map_or(0, Refusal::number) == number, given);
         }
     }
