@@ -28,7 +28,8 @@ pub fn network(plate: &Plate) -> Network {
             .for_each(|&d| face_of[d] = supplies.len() as i32);
         supplies.push(plate.turns_due(face) as i32 - 2 * face.len() as i32);
     }
-    let bends = (0..darts).map(|d| (face_of[d], face_of[twin(d)], 0, -1, BEND));
+    let most = |d| plate.limit(d).map_or(-1, |limit| limit as i32);
+    let bends = (0..darts).map(|d| (face_of[d], face_of[twin(d)], 0, most(d), BEND));
     let corners = (0..darts).flat_map(|d| {
         let (post, face) = (plate.head(d) as i32, face_of[d]);
         let (most, over) = if plate.at_joint(d) { (2, 1) } else { (4, 0) };

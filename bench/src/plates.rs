@@ -19,6 +19,10 @@ pub const FAMILIES: [&str; 5] = ["grid", "tree", "path", "double", "looped"];
 /// The first three seeds that give 64 posts and 113 to 117 strips.
 const SEEDS: [u64; 3] = [207, 800, 1782];
 
+/// The most bends of each strip of the same plates within limits; with one less
+/// none of them has a shape.
+const LIMIT: u8 = 2;
+
 /// Seeds of plates among the slowest of those with 50 posts or more of the seeds
 /// below 20,000: before corners were counted, and since.
 const SLOW: [u64; 2] = [11552, 19216];
@@ -37,6 +41,11 @@ pub fn all() -> Vec<Named> {
         assert_eq!(plate.posts, 64);
         assert!((113..=117).contains(&plate.strips.len()));
         all.push(named("random", number, plate));
+    }
+    for (number, seed) in (1..).zip(SEEDS) {
+        let plate = plane_plate(64, &mut Random::new(seed));
+        let limits = vec![LIMIT; plate.strips.len()];
+        all.push(named("limited", number, plate.within(&limits)));
     }
     for seed in SLOW {
         let plate = plane_plate(64, &mut Random::new(seed));
@@ -95,6 +104,7 @@ fn grid(side: usize) -> Plate {
         order: places.iter().map(around).collect(),
         strips,
         outer: 1,
+        limits: Vec::new(),
     }
 }
 
@@ -114,6 +124,7 @@ fn tree(posts: usize, below: usize) -> Plate {
         strips,
         order,
         outer: 0,
+        limits: Vec::new(),
     }
 }
 

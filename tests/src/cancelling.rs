@@ -1,15 +1,18 @@
-//! The best shape of any plate by cycle cancelling on the flow network of
-//! document 01.
+//! The best shape of any plate within its limits by cycle cancelling on the
+//! flow network of document 01.
 //!
 //! The cost of a flow is the vector (bends, cornered posts, right bends of
 //! darts 0, 1, 2 and so on, angles of darts 0, 1, 2 and so on), compared
 //! lexicographically. Negative cycles are cancelled for its first two
 //! components, then, among the flows that are least so far, for one component
 //! after another. The angle of a dart is on two arcs, the second for what is
-//! over 2 where that leaves a post cornered.
+//! over 2 where that leaves a post cornered. Right bends that pass a limit are
+//! on arcs of their own, which outweigh all bends: where the least cost leaves
+//! some, there is no shape.
 
 use crate::plate::{twin, Plate, Shape};
 use std::collections::VecDeque;
+use std::ops::Range;
 
 struct Arc {
     tail: usize,
@@ -28,7 +31,8 @@ struct Step {
 }
 
 /// Nodes are the posts, then the faces. Of n darts, arc d carries the right
-/// bends of dart d, and arcs n + 2d and n + 2d + 1 the angle at its end.
+/// bends of dart d, and arcs n + 2d and n + 2d + 1 the angle at its end. Arcs
+/// for right bends over limits are behind these.
 struct Network {
     nodes: usize,
     arcs: Vec<Arc>,
@@ -40,15 +44,36 @@ const UNLIMITED: i64 = 1 << 40;
 /// A bend outweighs any cornered posts.
 const BEND: i64 = 1 << 20;
 
-/// The best shape of an accepted plate.
-pub fn best(plate: &Plate) -> Shape {
-    let mut network = any_flow(plate);
-    let potentials = network.cancel_for_bends();
-    network.cancel_among_ties(&potentials);
-    network.shape(plate.darts())
+/// A bend over a limit outweighs any bends.
+const OVER: i64 = 1 << 40;
+
+/// The best shape of an accepted plate within its limits, or none.
+pub fn best(plate: &Plate) -> Option<Shape> {
+    best_or_cut(plate).ok()
 }
 
-/// Any shape of an accepted plate that meets the conditions.
+/// The best shape, or, where no shape keeps the limits, which nodes of the
+/// network supply more than the arcs can take away from them.
+pub fn best_or_cut(plate: &Plate) -> Result<Shape, Vec<bool>> {
+    let mut network = any_flow(plate);
+    network.hold_to_limits(plate);
+    let potentials = network.cancel_for_bends();
+    let over = 3 * plate.darts()..network.arcs.len();
+    if let Some(arc) = over.clone().find(|&arc| network.arcs[arc].flow > 0) {
+        return Err(network.shut_in(arc, over));
+    }
+    network.arcs.truncate(over.start);
+    network.cancel_among_ties(&potentials);
+    let shape = network.shape(plate.darts());
+    assert!(
+        plate.keeps_limits(&shape.rights),
+        "no strip bends both ways"
+    );
+    Ok(shape)
+}
+
+/// Any shape of an accepted plate that meets the conditions; it may pass
+/// limits.
 pub fn any(plate: &Plate) -> Shape {
     any_flow(plate).shape(plate.darts())
 }
@@ -164,6 +189,39 @@ fn dual_tree(plate: &Plate, faces: &[Vec<usize>], network: &Network) -> Vec<(usi
 }
 
 impl Network {
+    /// Holds the right bends of each dart to the limit of its strip and puts
+    /// what is over it on an arc of its own. In a flow of least cost no strip
+    /// bends both ways, so that this is the limit of the strip.
+    fn hold_to_limits(&mut self, plate: &Plate) {
+        for dart in 0..plate.darts() {
+            let Some(limit) = plate.limit(dart) else {
+                continue;
+            };
+            let bends = &mut self.arcs[dart];
+            bends.high = i64::from(limit);
+            let over = Arc {
+                high: UNLIMITED,
+                flow: (bends.flow - bends.high).max(0),
+                cost: OVER,
+                ..*bends
+            };
+            bends.flow -= over.flow;
+            self.arcs.push(over);
+        }
+    }
+
+    /// The nodes that steps lead to from the tail of an arc that carries right
+    /// bends over a limit, where no more may go over limits.
+    fn shut_in(&mut self, arc: usize, over: Range<usize>) -> Vec<bool> {
+        for arc in &mut self.arcs[over] {
+            arc.high = arc.flow;
+        }
+        let from = self.arcs[arc].tail;
+        let last = self.last_steps(from, &vec![true; self.arcs.len()]);
+        let met = |node: usize| node == from || last[node].is_some();
+        (0..self.nodes).map(met).collect()
+    }
+
     /// The steps that the bounds allow now (arcs of the residual network).
     fn steps(&self) -> Vec<Step> {
         let mut steps = Vec::new();
@@ -299,6 +357,11 @@ impl Network {
 
     /// A path of steps over open arcs.
     fn path(&self, from: usize, to: usize, open: &[bool]) -> Option<Vec<Step>> {
+        self.path_back(from, to, &self.last_steps(from, open))
+    }
+
+    /// The last step to each node that steps over open arcs lead to.
+    fn last_steps(&self, from: usize, open: &[bool]) -> Vec<Option<Step>> {
         let mut steps_from = vec![Vec::new(); self.nodes];
         for step in self.steps() {
             if open[step.arc] {
@@ -316,7 +379,7 @@ impl Network {
                 }
             }
         }
-        self.path_back(from, to, &last)
+        last
     }
 
     fn path_back(&self, from: usize, to: usize, last: &[Option<Step>]) -> Option<Vec<Step>> {

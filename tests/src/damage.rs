@@ -67,11 +67,16 @@ fn changed_bytes(file: &[u8], random: &mut Random, visit: &mut dyn FnMut(&[u8]))
     }
 }
 
+/// Lengths near the longest of some field.
+const LENGTHS: [usize; 17] = [
+    0, 1, 2, 3, 4, 79, 80, 81, 82, 127, 128, 129, 254, 255, 256, 257, 258,
+];
+
 /// Each field with its content cut or longer, its length told truly.
 fn changed_lengths(file: &[u8], visit: &mut dyn FnMut(&[u8])) {
     let fields = split_fields(file);
     for place in 0..fields.len() {
-        for length in [0, 1, 2, 3, 4, 79, 80, 81, 82, 254, 255, 256, 257, 258] {
+        for length in LENGTHS {
             let mut damaged = fields.clone();
             damaged[place].resize(3 + length, 0);
             damaged[place][1..3].copy_from_slice(&(length as u16).to_be_bytes());

@@ -1,12 +1,12 @@
-//! Files of document 01 and request E7: fields, refusals 1 to 22 and 29, shape
-//! files, listings, older files put in order.
+//! Files of document 01 and requests E2 and E7: fields, refusals 1 to 25 and
+//! 29, shape files, listings, older files put in order.
 //! A refusal is its number.
 
 use crate::plate::{Plate, Shape};
 use std::collections::BTreeMap;
 
-/// Finds the best shape of an accepted plate.
-pub type Solver = fn(&Plate) -> Shape;
+/// Finds the best shape of an accepted plate within its limits, or none.
+pub type Solver = fn(&Plate) -> Option<Shape>;
 
 /// An accepted plate list.
 #[derive(Debug)]
@@ -34,6 +34,7 @@ fn list_layout(tag: u8, length: usize) -> Option<bool> {
         0x03 => length % 2 == 0 && length <= 256,
         0x04 => length <= 256,
         0x06 => length <= 80,
+        0x07 => length <= 128,
         _ => return None,
     })
 }
@@ -119,7 +120,7 @@ pub fn in_order(file: &[u8]) -> Result<Vec<u8>, u8> {
     Ok(ordered)
 }
 
-/// Reads a plate list: 1 to 15 and 29.
+/// Reads a plate list: 1 to 15, 23 and 29.
 pub fn read_list(file: &[u8]) -> Result<List, u8> {
     let mut fields = read_fields(file, list_layout, 0x01..=0x05, Order::Rising)?;
     let posts = usize::from(fields[&0x02][0]);
@@ -129,12 +130,17 @@ pub fn read_list(file: &[u8]) -> Result<List, u8> {
         strips: pairs(&fields[&0x03]),
         order: Vec::new(),
         outer: usize::from(fields[&0x05][0]),
+        limits: Vec::new(),
     };
     check_strips(&plate)?;
     plate.order = clockwise(&plate, &fields[&0x04]).ok_or(12)?;
     refuse_if(plate.outer >= plate.darts(), 13)?;
     refuse_if(!plate.connected(), 14)?;
     refuse_if(!plate.plane(), 15)?;
+    if let Some(limits) = fields.remove(&0x07) {
+        refuse_if(limits.len() != plate.strips.len(), 23)?;
+        plate.limits = limits;
+    }
     Ok(List {
         revision: fields[&0x01].clone(),
         remark: fields.remove(&0x06),
@@ -193,20 +199,32 @@ fn bytes(counts: &[u32]) -> Vec<u8> {
 pub fn list_fields(plate: &Plate, revision: u16, remark: Option<&[u8]>) -> Vec<Vec<u8>> {
     let ends: Vec<u8> = plate.strips.iter().flatten().map(|&p| p as u8).collect();
     let order: Vec<u8> = plate.order.iter().flatten().map(|&d| d as u8).collect();
-    let contents: [&[u8]; 5] = [
-        &revision.to_be_bytes(),
-        &[plate.posts as u8],
-        &ends,
-        &order,
-        &[plate.outer as u8],
+    let limits = Some(&plate.limits[..]).filter(|limits| !limits.is_empty());
+    let contents: [Option<&[u8]>; 7] = [
+        Some(&revision.to_be_bytes()),
+        Some(&[plate.posts as u8]),
+        Some(&ends),
+        Some(&order),
+        Some(&[plate.outer as u8]),
+        remark,
+        limits,
     ];
     let mut fields = Vec::new();
-    for (tag, content) in (1..).zip(contents.into_iter().chain(remark)) {
+    for (tag, content) in (1..).zip(contents) {
         let mut field = Vec::new();
-        push_field(&mut field, tag, content);
-        fields.push(field);
+        if let Some(content) = content {
+            push_field(&mut field, tag, content);
+            fields.push(field);
+        }
     }
     fields
+}
+
+/// A list with a field 07 of this content behind its other fields.
+pub fn with_limits(list: &[u8], content: &[u8]) -> Vec<u8> {
+    let mut list = list.to_vec();
+    push_field(&mut list, 0x07, content);
+    list
 }
 
 /// A plate list with its fields in tag order.
@@ -228,15 +246,16 @@ pub fn shape_bytes(list: &List, shape: &Shape) -> Vec<u8> {
     file
 }
 
-/// The shape file to be written for a plate list, with its total bends.
+/// The shape file to be written for a plate list, with its total bends: 1 to
+/// 15, 23 and 29, then 24.
 pub fn shape_of(file: &[u8], best: Solver) -> Result<(Vec<u8>, u32), u8> {
     let list = read_list(file)?;
-    let shape = best(&list.plate);
+    let shape = best(&list.plate).ok_or(24)?;
     Ok((shape_bytes(&list, &shape), shape.bends()))
 }
 
-/// The verdict on a shape file: 1 to 15 and 29 for the list, then 1 to 6, 29
-/// and 17 to 22.
+/// The verdict on a shape file: 1 to 15, 23 and 29 for the list, then 1 to 6,
+/// 29, 17 to 22 and 25.
 pub fn verdict_of(file: &[u8], shape_file: &[u8], best: Solver) -> Result<Verdict, u8> {
     let list = read_list(file)?;
     let plate = &list.plate;
@@ -253,7 +272,8 @@ pub fn verdict_of(file: &[u8], shape_file: &[u8], best: Solver) -> Result<Verdic
     refuse_if(!plate.turns_close(&plate.faces(), &shape), 21)?;
     let total = u32::from(u16::from_be_bytes([fields[&0x12][0], fields[&0x12][1]]));
     refuse_if(total != shape.bends(), 22)?;
-    let ours = best(plate);
+    refuse_if(!plate.keeps_limits(&shape.rights), 25)?;
+    let ours = best(plate).expect("the shape of the file keeps the limits");
     Ok(Verdict {
         total,
         fewest: ours.bends(),
@@ -263,10 +283,11 @@ pub fn verdict_of(file: &[u8], shape_file: &[u8], best: Solver) -> Result<Verdic
 
 /// The text that the listing program prints for a plate list.
 pub fn listing_of(file: &[u8], best: Solver) -> String {
-    match read_list(file) {
-        Err(number) => format!("refused {number}\n"),
-        Ok(list) => listing_text(&list, &best(&list.plate)),
-    }
+    let text = read_list(file).and_then(|list| {
+        let shape = best(&list.plate).ok_or(24)?;
+        Ok(listing_text(&list, &shape))
+    });
+    text.unwrap_or_else(|number| format!("refused {number}\n"))
 }
 
 fn listing_text(list: &List, shape: &Shape) -> String {

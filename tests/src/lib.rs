@@ -1,12 +1,14 @@
-//! An independent implementation of document 01, for comparison with the
-//! verified library. It shares no code and no algorithm with it.
+//! An independent implementation of document 01 and of the change requests that
+//! are here, for comparison with the verified library. It shares no code and no
+//! algorithm with it.
 //!
 //! - [`book`]: books of entries by sets of revisions.
 //! - [`files`]: fields, refusals, shape files, verdicts, listings, older files.
-//! - [`plate`]: darts, rotation, faces, the conditions H3 and H4.
+//! - [`plate`]: darts, rotation, faces, limits, the conditions H3 and H4.
 //! - [`search`]: the best shape of a small plate by trying every shape.
 //! - [`cancelling`]: the best shape of any plate by cancelling cycles.
-//! - [`certificate`]: whether a given shape is the best one.
+//! - [`certificate`]: whether a given shape is the best one, or no shape keeps
+//!   the limits.
 //! - [`random`]: random plates from a seed.
 //! - [`remembered`]: best shapes found once for many lists of one plate.
 //! - [`damage`]: sound files made unsound.

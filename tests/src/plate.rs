@@ -10,6 +10,9 @@ pub struct Plate {
     /// The leaving darts of each post in clockwise order (rotation).
     pub order: Vec<Vec<usize>>,
     pub outer: usize,
+    /// The most bends that each strip may have, 255 for no limit; empty where
+    /// the list has no limits.
+    pub limits: Vec<u8>,
 }
 
 /// Angles and right bends of every dart.
@@ -22,6 +25,14 @@ pub struct Shape {
 impl Shape {
     pub fn bends(&self) -> u32 {
         self.rights.iter().sum()
+    }
+
+    /// The bends of each strip, right and left together.
+    pub fn by_strip(&self) -> Vec<u32> {
+        self.rights
+            .chunks(2)
+            .map(|both| both.iter().sum())
+            .collect()
     }
 }
 
@@ -39,6 +50,7 @@ pub fn by_number(posts: usize, strips: &[[usize; 2]], outer: usize) -> Plate {
         strips: strips.to_vec(),
         order: (0..posts).map(leaving).collect(),
         outer,
+        limits: Vec::new(),
     }
 }
 
@@ -65,6 +77,27 @@ impl Plate {
     /// Whether some strip goes from a post to itself.
     pub fn has_loop(&self) -> bool {
         self.strips.iter().any(|[first, second]| first == second)
+    }
+
+    /// The same plate with these limits.
+    pub fn within(&self, limits: &[u8]) -> Plate {
+        Plate {
+            limits: limits.to_vec(),
+            ..self.clone()
+        }
+    }
+
+    /// The most bends that the strip of a dart may have, if it has a limit.
+    pub fn limit(&self, dart: usize) -> Option<u32> {
+        let limit = self.limits.get(dart / 2).filter(|&&limit| limit != 255);
+        limit.map(|&limit| u32::from(limit))
+    }
+
+    /// Whether no strip has more bends, right and left together, than its
+    /// limit.
+    pub fn keeps_limits(&self, rights: &[u32]) -> bool {
+        let bends = |dart: usize| rights[dart] + rights[twin(dart)];
+        (0..self.darts()).all(|d| self.limit(d).is_none_or(|most| bends(d) <= most))
     }
 
     /// The dart after `dart` on its face: just before its twin, clockwise,

@@ -43,6 +43,7 @@ fn one_strip() -> Plate {
         strips: vec![[0, 1]],
         order: vec![vec![0], vec![1]],
         outer: 0,
+        limits: Vec::new(),
     }
 }
 
@@ -53,6 +54,7 @@ fn two_strips() -> Plate {
         strips: vec![[0, 1], [0, 1]],
         order: vec![vec![0, 2], vec![3, 1]],
         outer: 0,
+        limits: Vec::new(),
     }
 }
 
@@ -155,6 +157,7 @@ fn medial(plate: &Plate) -> Plate {
         strips: (0..darts).map(|d| [d / 2, plate.after(d) / 2]).collect(),
         order: (0..plate.strips.len()).map(around).collect(),
         outer: 0,
+        limits: Vec::new(),
     }
 }
 
@@ -260,6 +263,7 @@ pub fn double_ring(posts: usize) -> Plate {
         strips,
         order,
         outer: 0,
+        limits: Vec::new(),
     }
 }
 
@@ -282,6 +286,7 @@ pub fn looped_ring(posts: usize) -> Plate {
         strips,
         order,
         outer: 0,
+        limits: Vec::new(),
     }
 }
 

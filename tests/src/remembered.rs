@@ -2,6 +2,7 @@
 //! round the posts are turned to their lowest darts first: a shape does not
 //! depend on where they start.
 
+use crate::files::Solver;
 use crate::plate::{Plate, Shape};
 use crate::{cancelling, search};
 use std::cell::RefCell;
@@ -9,7 +10,7 @@ use std::collections::HashMap;
 
 thread_local! {
     /// The shapes found of late, by the solver's name and the plate.
-    static FOUND: RefCell<HashMap<String, Shape>> = RefCell::new(HashMap::new());
+    static FOUND: RefCell<HashMap<String, Option<Shape>>> = RefCell::new(HashMap::new());
 }
 
 /// The plate with each order turned to its lowest dart.
@@ -22,7 +23,7 @@ fn turned(plate: &Plate) -> Plate {
     plate
 }
 
-fn recall(solver: &str, plate: &Plate, best: fn(&Plate) -> Shape) -> Shape {
+fn recall(solver: &str, plate: &Plate, best: Solver) -> Option<Shape> {
     let plate = turned(plate);
     let key = format!("{solver} {plate:?}");
     FOUND.with_borrow_mut(|found| {
@@ -34,11 +35,11 @@ fn recall(solver: &str, plate: &Plate, best: fn(&Plate) -> Shape) -> Shape {
 }
 
 /// The best shape by exhaustive search.
-pub fn search_once(plate: &Plate) -> Shape {
+pub fn search_once(plate: &Plate) -> Option<Shape> {
     recall("search", plate, search::best)
 }
 
 /// The best shape by cycle cancelling.
-pub fn cancel_once(plate: &Plate) -> Shape {
+pub fn cancel_once(plate: &Plate) -> Option<Shape> {
     recall("cancelling", plate, cancelling::best)
 }

@@ -1,4 +1,5 @@
-//! The best shape of a small plate by trying every shape in order.
+//! The best shape of a small plate within its limits by trying every shape in
+//! order.
 
 use crate::plate::{twin, Plate, Shape};
 
@@ -18,14 +19,12 @@ struct Search<'a> {
     choices: Vec<Angles>,
 }
 
-/// The best shape: totals are tried from 0 on, and of the shapes with the
-/// first total that some shape has, the one with fewest cornered posts, then
-/// the first in the order of document 01, is taken.
-pub fn best(plate: &Plate) -> Shape {
+/// The best shape within the limits: totals are tried from 0 on, and of the
+/// shapes with the first total that some shape has, the one with fewest
+/// cornered posts, then the first in the order of document 01, is taken.
+pub fn best(plate: &Plate) -> Option<Shape> {
     let search = Search::new(plate);
-    (0..)
-        .find_map(|total| search.first_with(total))
-        .expect("every plate has a shape")
+    (0..=search.most_bends()).find_map(|total| search.first_with(total))
 }
 
 impl Search<'_> {
@@ -48,11 +47,28 @@ impl Search<'_> {
         }
     }
 
+    /// A total that no best shape passes. Bends round a cycle of faces can be
+    /// left out. The others lead from faces with turns to give away, each over
+    /// a strip once, so that no strip has more than these turns together.
+    fn most_bends(&self) -> u32 {
+        let straight = vec![0; self.plate.darts()];
+        let due = |face: &Vec<usize>| self.angles_due(face, &straight);
+        let due: Vec<i64> = self.faces.iter().map(due).collect();
+        let given_away = |choice: &Angles| -> i64 {
+            let faces = choice.sums.iter().zip(&due);
+            faces.map(|(sum, due)| (sum - due).max(0)).sum()
+        };
+        let most = self.choices.iter().map(given_away).max();
+        let most = most.expect("every plate has angles that meet H4") as u32;
+        let of_strip = |strip| self.plate.limit(2 * strip).unwrap_or(most).min(most);
+        (0..self.plate.strips.len()).map(of_strip).sum()
+    }
+
     /// The best shape with this total, if there is one. Right bends are tried
     /// in order, so of shapes with as many cornered posts the first stays.
     fn first_with(&self, total: u32) -> Option<Shape> {
         let mut best: Option<(usize, Shape)> = None;
-        each_sequence(self.plate.darts(), total, &mut Vec::new(), &mut |rights| {
+        self.each_rights(total, &mut Vec::new(), &mut |rights| {
             if let Some(found) = self.first_angles(rights) {
                 if best.as_ref().is_none_or(|(fewest, _)| found.0 < *fewest) {
                     best = Some(found);
@@ -61,6 +77,32 @@ impl Search<'_> {
             best.as_ref().is_some_and(|(fewest, _)| *fewest == 0)
         });
         best.map(|(_, shape)| shape)
+    }
+
+    /// Calls `stop` with all right bends within the limits that add to `total`,
+    /// the smaller first, until it returns true. Returns whether it did. A
+    /// strip may bend both ways.
+    fn each_rights(
+        &self,
+        total: u32,
+        start: &mut Vec<u32>,
+        stop: &mut dyn FnMut(&[u32]) -> bool,
+    ) -> bool {
+        let dart = start.len();
+        if dart == self.plate.darts() {
+            return total == 0 && stop(start);
+        }
+        let lefts = start.get(twin(dart)).copied().unwrap_or(0);
+        let limit = self.plate.limit(dart).map(|limit| limit - lefts);
+        for number in 0..=limit.unwrap_or(total).min(total) {
+            start.push(number);
+            let stopped = self.each_rights(total - number, start, stop);
+            start.pop();
+            if stopped {
+                return true;
+            }
+        }
+        false
     }
 
     /// The best shape with these right bends that meets H3, if there is one,
@@ -110,45 +152,21 @@ fn sum_so_far(plate: &Plate, post: usize, start: &[u32]) -> u32 {
     ending.map(|d| start[d]).sum()
 }
 
-/// Calls `stop` with every sequence of `length` numbers that add to `total`,
-/// the smaller first, until it returns true. Returns whether it did.
-fn each_sequence(
-    length: usize,
-    total: u32,
-    start: &mut Vec<u32>,
-    stop: &mut dyn FnMut(&[u32]) -> bool,
-) -> bool {
-    if length == 0 {
-        return total == 0 && stop(start);
-    }
-    for number in 0..=total {
-        start.push(number);
-        let stopped = each_sequence(length - 1, total - number, start, stop);
-        start.pop();
-        if stopped {
-            return true;
-        }
-    }
-    false
-}
-
 /// A bend: true right, false left.
 type Word = Vec<bool>;
 
-/// The best shape of all those with any words of right and left bends, mixed
-/// ones included, by the counts of their right bends.
-pub fn best_with_words(plate: &Plate) -> Shape {
+/// The best shape of all those with any words of right and left bends within
+/// the limits, mixed ones included, by the counts of their right bends.
+pub fn best_with_words(plate: &Plate) -> Option<Shape> {
     let search = Search::new(plate);
-    (0..)
-        .find_map(|total| {
-            let mut best = None;
-            each_words(plate.strips.len(), total, &mut Vec::new(), &mut |words| {
-                let found = search.first_angles(&rights_of(words));
-                best = earlier(best.take(), found);
-            });
-            best.map(|(_, shape)| shape)
-        })
-        .expect("every plate has a shape")
+    (0..=search.most_bends()).find_map(|total| {
+        let mut best = None;
+        each_words(plate, total, &mut Vec::new(), &mut |words| {
+            let found = search.first_angles(&rights_of(words));
+            best = earlier(best.take(), found);
+        });
+        best.map(|(_, shape)| shape)
+    })
 }
 
 /// The one of two shapes with the same total that comes first.
@@ -172,19 +190,20 @@ fn count_rights(word: &Word) -> u32 {
     word.iter().filter(|&&right| right).count() as u32
 }
 
-/// Calls `visit` with every choice of a word for each of `strips` strips, the
-/// lengths adding to `total`.
-fn each_words(strips: usize, total: usize, start: &mut Vec<Word>, visit: &mut dyn FnMut(&[Word])) {
-    if strips == 0 {
+/// Calls `visit` with every choice of a word for each strip, none longer than
+/// its limit, the lengths adding to `total`.
+fn each_words(plate: &Plate, total: u32, start: &mut Vec<Word>, visit: &mut dyn FnMut(&[Word])) {
+    let strip = start.len();
+    if strip == plate.strips.len() {
         if total == 0 {
             visit(start);
         }
         return;
     }
-    for length in 0..=total {
+    for length in 0..=plate.limit(2 * strip).unwrap_or(total).min(total) {
         for code in 0..1_u32 << length {
             start.push((0..length).map(|bend| code >> bend & 1 == 1).collect());
-            each_words(strips - 1, total - length, start, visit);
+            each_words(plate, total - length, start, visit);
             start.pop();
         }
     }

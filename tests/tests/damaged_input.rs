@@ -3,8 +3,9 @@
 use plates_tests::cancelling;
 use plates_tests::compare;
 use plates_tests::damage::{changed_once, cut_and_mixed, each_damaged};
-use plates_tests::files::{read_list, shape_bytes};
+use plates_tests::files::{read_list, shape_bytes, with_limits};
 use plates_tests::long_mode;
+use plates_tests::plate::{Plate, Shape};
 use plates_tests::random::{any_plate, list_of, Random};
 use plates_tests::remembered::cancel_once;
 
@@ -12,6 +13,11 @@ use plates_tests::remembered::cancel_once;
 /// from a post to itself.
 fn random_list(most: usize, random: &mut Random) -> Vec<u8> {
     list_of(&any_plate(most, random), random)
+}
+
+/// The best shape of a plate that has one within its limits.
+fn best_of(plate: &Plate) -> Shape {
+    cancel_once(plate).expect("the plate has a shape within its limits")
 }
 
 /// Sizes of the plates to be damaged: mostly small.
@@ -66,7 +72,7 @@ fn damaged_shapes() {
         let list = random_list(size(seed), &mut random);
         let read = read_list(&list).expect("the plate is plane");
         let shape = match seed % 2 {
-            0 => cancelling::best(&read.plate),
+            0 => best_of(&read.plate),
             _ => cancelling::any(&read.plate),
         };
         let file = shape_bytes(&read, &shape);
@@ -89,7 +95,7 @@ fn damaged_lists_with_shapes() {
         let mut random = Random::new(4_000_000 + seed);
         let list = random_list(size(seed), &mut random);
         let read = read_list(&list).expect("the plate is plane");
-        let file = shape_bytes(&read, &cancelling::best(&read.plate));
+        let file = shape_bytes(&read, &best_of(&read.plate));
         let mut other = Random::new(seed);
         each_damaged(&list, &mut random, &mut |damaged| {
             let mut shape = file.clone();
@@ -114,7 +120,7 @@ fn every_random_plate_damaged() {
         let mut random = Random::new(seed);
         let list = random_list(64, &mut random);
         let read = read_list(&list).expect("the plate is plane");
-        let file = shape_bytes(&read, &cancel_once(&read.plate));
+        let file = shape_bytes(&read, &best_of(&read.plate));
         let mut shaping = |damaged: &[u8]| {
             numbers[usize::from(compare::shaping_longer(damaged, cancel_once))] += 1;
         };
@@ -132,25 +138,28 @@ fn every_random_plate_damaged() {
         .for_each(|&number: &usize| assert_ne!(numbers[number], 0, "number {number}"));
 }
 
-/// Every byte of P1 changed to every value, in list and in shape.
+/// Every byte of P1 changed to every value, in list and in shape, without limits
+/// and with one bend at most on each strip.
 #[test]
 fn every_value_of_every_byte() {
     let list = [
         1, 0, 2, 0, 7, 2, 0, 1, 2, 3, 0, 4, 0, 1, 0, 1, 4, 0, 4, 0, 2, 1, 3, 5, 0, 1, 1,
     ];
-    let read = read_list(&list).expect("P1 is accepted");
-    let file = shape_bytes(&read, &cancelling::best(&read.plate));
-    for value in 0..=255 {
-        for place in 0..list.len() {
-            let mut damaged = list;
-            damaged[place] = value;
-            compare::shaping(&damaged, cancelling::best);
-            compare::listing(&damaged, cancelling::best);
-        }
-        for place in 0..file.len() {
-            let mut damaged = file.clone();
-            damaged[place] = value;
-            compare::checking(&list, &damaged, cancelling::best);
+    for list in [list.to_vec(), with_limits(&list, &[1, 1])] {
+        let read = read_list(&list).expect("P1 is accepted");
+        let file = shape_bytes(&read, &best_of(&read.plate));
+        for value in 0..=255 {
+            for place in 0..list.len() {
+                let mut damaged = list.clone();
+                damaged[place] = value;
+                compare::shaping(&damaged, cancelling::best);
+                compare::listing(&damaged, cancelling::best);
+            }
+            for place in 0..file.len() {
+                let mut damaged = file.clone();
+                damaged[place] = value;
+                compare::checking(&list, &damaged, cancelling::best);
+            }
         }
     }
 }
@@ -166,4 +175,40 @@ fn random_bytes() {
         compare::shaping(&file, cancelling::best);
         compare::checking(&file, &file, cancelling::best);
     }
+}
+
+/// Lists with limits that their best shapes just keep, damaged, and damaged
+/// shapes against them, of which every other one passes a limit.
+#[test]
+fn damaged_limits() {
+    let mut numbers = [Numbers::default(); 2];
+    for seed in 0..how_many() {
+        let mut random = Random::new(9_500_000 + seed);
+        let mut plate = any_plate(3 + seed as usize % 6, &mut random);
+        let mut shape = best_of(&plate);
+        plate.limits = shape.by_strip().iter().map(|&bends| bends as u8).collect();
+        let list = list_of(&plate, &mut random);
+        let read = read_list(&list).expect("the plate is plane");
+        each_damaged(&list, &mut random, &mut |damaged| {
+            numbers[0][usize::from(compare::shaping(damaged, cancel_once))] += 1;
+            compare::listing(damaged, cancel_once);
+        });
+        // A right and a left bend more on strip 0.
+        if seed % 2 == 1 {
+            shape.rights[0] += 1;
+            shape.rights[1] += 1;
+        }
+        each_damaged(&shape_bytes(&read, &shape), &mut random, &mut |damaged| {
+            numbers[1][usize::from(compare::checking(&list, damaged, cancel_once))] += 1;
+        });
+    }
+    print_numbers("damaged lists with limits", &numbers[0]);
+    print_numbers("damaged shapes against limits", &numbers[1]);
+    for number in [1, 2, 3, 4, 5, 6, 23, 24, 29] {
+        assert_ne!(numbers[0][number], 0, "number {number}");
+    }
+    for number in (1..=6).chain(17..=22).chain([25, 29]) {
+        assert_ne!(numbers[1][number], 0, "number {number}");
+    }
+    assert_eq!([numbers[0][25], numbers[1][23], numbers[1][24]], [0; 3]);
 }

@@ -71,6 +71,19 @@ fn c_program_gets_the_answers() {
     assert_eq!(printed_by_c("p1"), expected);
 }
 
+/// P1 with limits 1 and 1 has a bend on dart 0 and one on dart 3; with limits 0
+/// and 1 it has no shape, and the memory is as before. That shape is ours within
+/// 1 and 1, not within 1 and none, and passes 0.
+#[test]
+fn c_program_gets_the_limits() {
+    let expected = "write 0 length 24 bends 2: 1 0 0 1\n\
+        write 24 length 0 bends 0: 1 0 0 1\n\
+        check 0 total 2 fewest 2 ours 1\n\
+        check 0 total 2 fewest 2 ours 0\n\
+        check 25 total 0 fewest 0 ours 0\n";
+    assert_eq!(printed_by_c("limits"), expected);
+}
+
 /// Model 7 has revisions 1 and 5, model 9 has 256, and model 8 is not there;
 /// without its last byte the book is refused with 40.
 #[test]

@@ -18,12 +18,17 @@ struct Pair {
 impl Pair {
     fn of(list: Vec<u8>) -> Pair {
         let read = read_list(&list).expect("the plate is plane");
-        let shape = shape_bytes(&read, &cancel_once(&read.plate));
+        let shape = cancel_once(&read.plate).expect("the plate has a shape within its limits");
+        let shape = shape_bytes(&read, &shape);
         Pair { list, shape }
     }
 
+    /// Half of the lists have limits.
     fn random(random: &mut Random) -> Pair {
-        let plate = any_plate(6, random);
+        let mut plate = any_plate(6, random);
+        if random.below(2) == 0 {
+            plate.limits = vec![255; plate.strips.len()];
+        }
         Pair::of(list_of(&plate, random))
     }
 
@@ -80,21 +85,24 @@ fn orders_of(file: &[u8], walk: &dyn Fn(&[u8]) -> u8) -> usize {
 fn every_order() {
     let count = if long_mode() { 200 } else { 8 };
     let mut random = Random::new(29);
-    let mut orders = 0;
+    let (mut orders, mut most) = (0, 0);
     for _ in 0..count {
         let pair = Pair::random(&mut random);
-        orders += orders_of(&pair.list, &shaping);
-        orders += orders_of(&pair.shape, &|order| pair.checking(order));
+        let of_list = orders_of(&pair.list, &shaping);
+        most = most.max(of_list);
+        orders += of_list + orders_of(&pair.shape, &|order| pair.checking(order));
     }
-    println!("{orders} orders");
-    assert!(orders > 1000);
+    println!("{orders} orders, of one list up to {most}");
+    // Some list has remark and limits.
+    assert_eq!(most, 5_040);
 }
 
-/// How many rows there are, how many the old walk takes, and how many the walk.
-fn rows_of(file: &[u8], walk: &dyn Fn(&[u8]) -> u8) -> [usize; 3] {
+/// How many rows of at most so many fields there are, how many the old walk
+/// takes, and how many the walk.
+fn rows_of(file: &[u8], most: usize, walk: &dyn Fn(&[u8]) -> u8) -> [usize; 3] {
     let mut counts = [0; 3];
     let fields = split_fields(file);
-    each_row(&fields, fields.len(), &mut Vec::new(), &mut |row| {
+    each_row(&fields, most, &mut Vec::new(), &mut |row| {
         let older = compare::ordering(row);
         let number = walk(row);
         counts[0] += 1;
@@ -107,8 +115,9 @@ fn rows_of(file: &[u8], walk: &dyn Fn(&[u8]) -> u8) -> [usize; 3] {
     counts
 }
 
-/// Every row of at most six fields of a list, and of at most five of a shape
-/// file, with fields left out and doubled: the plate has two posts and a strip.
+/// Every row of at most six fields of a list, in the long mode seven, and of at
+/// most five of a shape file, with fields left out and doubled: the plate has
+/// two posts and a strip with a limit.
 #[test]
 fn rows_of_fields() {
     let plate = Plate {
@@ -116,12 +125,19 @@ fn rows_of_fields() {
         strips: vec![[0, 1]],
         order: vec![vec![0], vec![1]],
         outer: 0,
+        limits: vec![0],
     };
     let pair = Pair::of(list_bytes(&plate, 7, Some(b"Hi")));
-    // All orders of the five or six fields, and of the four or five.
-    let lists = rows_of(&pair.list, &shaping);
-    assert_eq!(lists, [55_987, 120 + 720, 2]);
-    let shapes = rows_of(&pair.shape, &|row| pair.checking(row));
+    // All orders of the five needed fields, of these with the remark, with the
+    // limits, and with both.
+    if long_mode() {
+        let lists = rows_of(&pair.list, 7, &shaping);
+        assert_eq!(lists, [960_800, 120 + 2 * 720 + 5_040, 4]);
+    } else {
+        let lists = rows_of(&pair.list, 6, &shaping);
+        assert_eq!(lists, [137_257, 120 + 2 * 720, 3]);
+    }
+    let shapes = rows_of(&pair.shape, 5, &|row| pair.checking(row));
     assert_eq!(shapes, [3_906, 24 + 120, 2]);
 }
 
@@ -152,16 +168,24 @@ fn damaged_older_files() {
 
 /// The longest fields that a list and a shape file may have: tag and length.
 const LONGEST: [&[(u8, usize)]; 2] = [
-    &[(1, 2), (2, 1), (3, 256), (4, 256), (5, 1), (6, 80)],
+    &[
+        (1, 2),
+        (2, 1),
+        (3, 256),
+        (4, 256),
+        (5, 1),
+        (6, 80),
+        (7, 128),
+    ],
     &[(17, 2), (18, 2), (19, 256), (20, 256), (21, 80)],
 ];
 
 /// A list or a shape file of the longest fields, in any order, with a field of
-/// one of its tags and other bytes behind it: the first 617 bytes tell, as the
-/// first 1,024 do, which the programs read.
+/// one of its tags and other bytes behind it: the first 748 bytes tell, as the
+/// first 1,024 do, which the programs read. The longest list has 745.
 #[test]
 fn longer_files() {
-    let mut random = Random::new(617);
+    let mut random = Random::new(748);
     let pair = Pair::random(&mut random);
     let mut numbers = [[0usize; 30]; 2];
     for turn in 0..400 {
@@ -175,10 +199,11 @@ fn longer_files() {
             random.shuffle(&mut fields);
         }
         let end = fields.concat().len();
+        assert_eq!(end, [745, 611][turn % 2]);
         let file = [fields.concat(), vec![again], random.bytes(2_000)].concat();
         let calls = [shaping(&file), pair.checking(&file)];
         assert_eq!(compare::ordering(&file), Err(3));
-        for read in [617, 1024] {
+        for read in [748, 1024] {
             let front = &file[..read];
             assert_eq!(compare::ordering(front), Err(3));
             assert_eq!([shaping(front), pair.checking(front)], calls);
