@@ -1,9 +1,9 @@
 -- Limits of bends over lists: 24 is given exactly where no shape keeps them, and without field 07 the walk, and so every promise, is that of before. Assumes nothing.
-use mathlib.Core.Path.{_≡_, refl, sym, ap, subst, _∙_}
+use mathlib.Core.Path.{_≡_, refl, sym, ap, ap₂, subst, _∙_}
 use mathlib.Core.Bool.{Bool, true, false, _||_, not}
 use mathlib.Core.List.{List, [], _∷_}
 use mathlib.Core.Logic.{_↔_}
-use Prim.Native.Nat.{ℕ, zero, suc, _+_, _≤_, _<_}
+use Prim.Native.Nat.{ℕ, zero, suc, _+_, _*_, _≤_, _<_}
 use native.Mathlib.Omega.{arith}
 use borrow.Author.Tests.{eqb-true, leb-true, not-false}
 use lib.Dec.{eqb, ltb, leb}
@@ -21,14 +21,14 @@ use Rattle.shapes.proofs.Tried.{loop-best}
 use Rattle.plates.specs.declared.Shaped.{Shaped}
 use Rattle.plates.specs.declared.Verdict.{Verdict}
 use Rattle.plates.specs.declared.Listed.{Listed}
-use Rattle.plates.specs.Plates.{Plate, pickT, firstOf, when, strips, plateFault}
-use Rattle.plates.specs.Shapes.{Shape, bends, rightsOf, total, pairSums, allWithin, allFree}
-use Rattle.plates.specs.Files.{Walk, hasTag, walkAll, limitsFit, limitsFault, listFault, plateOf, limitsOf}
+use Rattle.plates.specs.Plates.{Plate, pick, pickT, firstOf, when, darts, strips, plateFault}
+use Rattle.plates.specs.Shapes.{Shape, bends, rightsOf, total, pairSums, allWithin, allFree, shapeOf}
+use Rattle.plates.specs.Files.{Walk, hasTag, walkAll, limitsFit, limitsFault, listFault, plateOf, limitsOf, fileBytes, shapeBytes}
 use Rattle.plates.specs.Claims.{Best, BestOf, SomeWithin, NoneWithin, HasBest}
-use Rattle.plates.specs.Says.{fileLong, rightsIn, NoneKeeps, shapeFault, fileFaultBy, checkFault, ShapeWith, ShapeSays, CheckWith, CheckSays}
+use Rattle.plates.specs.Says.{over, remarkLong, fileLong, rightsIn, NoneKeeps, shapeFault, fileFaultBy, checkFault, ShapeWith, ShapeSays, CheckWith, CheckSays}
 use Rattle.plates.specs.Listing.{refusedText, Gives, ListingWith, ListingSays}
 use Rattle.plates.specs.Answers.{shaped}
-use Rattle.plates.specs.Limits.{walkFault, sixWalk, comesTo, ShapeBy, ShapeFrom, CheckBy, CheckFrom, ListingBy, ListingFrom, AsUnlimited, limitedLoop, One-limit, Limits}
+use Rattle.plates.specs.Limits.{walkFault, sixWalk, comesTo, ShapeBy, ShapeFrom, CheckBy, CheckFrom, ListingBy, ListingFrom, AsUnlimited, SameBesides, limitedLoop, One-limit, Limits}
 use Rattle.plates.proofs.Lists.{list-accepted, list-number, list-demands, best-some, free-some}
 use Rattle.plates.proofs.OneAnswer.{one-number, shape-only}
 use Rattle.plates.proofs.Shaping.{none-says}
@@ -90,11 +90,45 @@ listed s o o′ r e n (none, h, x) = go none (h e) (subst (λ (f : ℕ). Listing
 as-plate : (b : List ℕ) (u : Shape) → allFree (limitsOf b) ≡ true → BestOf b u ↔ Best (plateOf b) u
 as-plate b u free = (free-best (limitsOf b) free, best-free (limitsOf b) free)
 
-all-free : (s t : List ℕ) (u : Shape) → plateOf s ≡ plateOf t → allFree (limitsOf s) ≡ true → allFree (limitsOf t) ≡ true → BestOf s u ↔ BestOf t u
-all-free s t u p f g = (
-  λ b. as-plate t u g .1 (subst (λ (q : Plate). Best q u) p (as-plate s u f .0 b)),
-  λ b. as-plate s u f .1 (subst (λ (q : Plate). Best q u) (sym p) (as-plate t u g .0 b)),
-)
+module _ (s t : List ℕ) (e : listFault s ≡ 0) (e′ : listFault t ≡ 0) (h : SameBesides s t) (f : allFree (limitsOf s) ≡ true) (g : allFree (limitsOf t) ≡ true) where
+  same-plate : plateOf t ≡ plateOf s
+  same-plate = sym (rw (h .content 2 (λ z. omega arith), h .content 3 (λ z. omega arith), h .content 4 (λ z. omega arith), h .content 5 (λ z. omega arith)))
+
+  same-copied : (a x : List ℕ) → fileBytes (walkAll false t .fields) a x ≡ fileBytes (walkAll false s .fields) a x
+  same-copied a x = sym (rw (h .content 1 (λ z. omega arith), h .there 6 (λ z. omega arith), h .content 6 (λ z. omega arith)))
+
+  same-bytes : (a x : List ℕ) → shapeBytes (walkAll false t .fields) (shapeOf (plateOf t) a x) ≡ shapeBytes (walkAll false s .fields) (shapeOf (plateOf s) a x)
+  same-bytes a x = ap (λ (p : Plate). shapeBytes (walkAll false t .fields) (shapeOf p a x)) same-plate ∙ same-copied a (rightsOf (shapeOf (plateOf s) a x .words))
+
+  same-long : fileLong t ≡ fileLong s
+  same-long = ap (λ (p : Plate). 16 + (2 * darts p + remarkLong (walkAll false t .fields))) same-plate
+      ∙ sym (ap₂ (λ (b : Bool) (c : List ℕ). 16 + (2 * darts (plateOf s) + pick b (3 + length c) 0)) (h .there 6 (λ z. omega arith)) (h .content 6 (λ z. omega arith)))
+
+  same-best : (a x : List ℕ) → BestOf t (shapeOf (plateOf t) a x) → BestOf s (shapeOf (plateOf s) a x)
+  same-best a x b = as-plate s _ f .1 (subst (λ (p : Plate). Best p (shapeOf p a x)) same-plate (as-plate t _ g .0 b))
+
+  -- the number of an accepted list that is not limited: 16 or none
+  free-number : (b : List ℕ) → listFault b ≡ 0 → allFree (limitsOf b) ≡ true → (n : Bool) (o : List ℕ) → NoneKeeps n b → shapeFault n b o ≡ when (ltb (length o) (fileLong b)) 16
+  free-number b z free n o k =
+      one-number b n false (λ c. firstOf (when c 24) (when (ltb (length o) (fileLong b)) 16)) k (λ y. free-some b y free)
+      ∙ ap (λ (m : ℕ). firstOf m (when (ltb (length o) (fileLong b)) 16)) z
+
+  module _ (o o′ : List ℕ) (q : Shaped) where
+    with-other : (short : Bool) → ShapeWith (when short 16) t o o′ q → ShapeWith (when short 16) s o o′ q
+    with-other true x = x
+    with-other false (n, (a, x, best, counts, (long, sum, out))) = (
+      n,
+      (a, x, same-best a x best, ap (λ (p : Plate). rightsOf (shapeOf p a x .words)) (sym same-plate) ∙ counts, (long ∙ ap length (same-bytes a x), sum, out ∙ ap (λ (b : List ℕ). over b o) (same-bytes a x))),
+    )
+
+    other-says : ShapeSays t o o′ q → ShapeSays s o o′ q
+    other-says (n, k, x) =
+        let short = ltb (length o) (fileLong s) in
+        let y : ShapeWith (when short 16) t o o′ q = subst (λ (m : ℕ). ShapeWith m t o o′ q) (free-number t e′ g n o k ∙ ap (λ (m : ℕ). when (ltb (length o) m) 16) same-long) x in
+        (false, (λ z. free-some s z f), subst (λ (m : ℕ). ShapeWith m s o o′ q) (sym (free-number s e f false o (λ z. free-some s z f))) (with-other short y))
+
+  all-free : (o o₁ o₂ : List ℕ) (r q : Shaped) → ShapeSays s o o₁ r → ShapeSays t o o₂ q → (o₁ ≡ o₂) × (r ≡ q)
+  all-free o o₁ o₂ r q x y = shape-only s o o₁ o₂ r q x (other-says o o₂ q y)
 
 no-limits : (b : List ℕ) → hasTag 7 (walkAll false b .fields) ≡ false → allFree (limitsOf b) ≡ true
 no-limits b h = ap allFree (absent-none 7 (walkAll false b .fields) h)
@@ -228,6 +262,6 @@ limits = record {
   six-tags = six-tags;
   no-field = no-limits;
   as-plate = as-plate;
-  all-free = all-free;
+  all-free = λ s t o o₁ o₂ r q e e′ h f g. all-free s t e e′ h f g o o₁ o₂ r q;
   one-limit = one-limit;
 }

@@ -65,6 +65,11 @@ pub record AsUnlimited (s : List ℕ) : Type 0 where
   pub checked : (t : List ℕ) (r : Verdict) → CheckSays s t r ↔ CheckFrom (sixWalk true s) t r
   pub listed : (o o′ : List ℕ) (r : Listed) → ListingSays s o o′ r ↔ ListingFrom (sixWalk true s) o o′ r
 
+-- two lists that differ in field 07 at most
+pub record SameBesides (s t : List ℕ) : Type 0 where
+  pub there : (u : ℕ) → (u ≡ 7 → ⊥) → hasTag u (walkAll false s .fields) ≡ hasTag u (walkAll false t .fields)
+  pub content : (u : ℕ) → (u ≡ 7 → ⊥) → contentOf u (walkAll false s .fields) ≡ contentOf u (walkAll false t .fields)
+
 -- one post and one strip to itself, whose shape has three bends on dart 0, with a limit of n bends; revision 7
 abbrev pub limitedLoop : ℕ → List ℕ
 limitedLoop n = 1 ∷ 0 ∷ 2 ∷ 0 ∷ 7 ∷ 2 ∷ 0 ∷ 1 ∷ 1 ∷ 3 ∷ 0 ∷ 2 ∷ 0 ∷ 0 ∷ 4 ∷ 0 ∷ 2 ∷ 0 ∷ 1 ∷ 5 ∷ 0 ∷ 1 ∷ 1 ∷ 7 ∷ 0 ∷ 1 ∷ n ∷ []
@@ -95,8 +100,10 @@ pub record Limits : Type 0 where
   -- a list without field 07, accepted or refused, is answered as before, its walk included; so is E7's program
   pub unlimited : (s : List ℕ) → comesTo true 7 s ≡ false → AsUnlimited s
   pub six-tags : Six-tags
-  -- with 255 everywhere, or without the field, the best shape is that of the plate, and of two such lists with one plate it is the same
+  -- with 255 everywhere, or without the field, the best shape is that of the plate
   pub no-field : (b : List ℕ) → hasTag 7 (walkAll false b .fields) ≡ false → allFree (limitsOf b) ≡ true
   pub as-plate : (b : List ℕ) (u : Shape) → allFree (limitsOf b) ≡ true → BestOf b u ↔ Best (plateOf b) u
-  pub all-free : (s t : List ℕ) (u : Shape) → plateOf s ≡ plateOf t → allFree (limitsOf s) ≡ true → allFree (limitsOf t) ≡ true → BestOf s u ↔ BestOf t u
+  -- and two such lists that are the same besides get the same answer and the same bytes, whatever memory is lent
+  pub all-free : (s t o o₁ o₂ : List ℕ) (r q : Shaped) → listFault s ≡ 0 → listFault t ≡ 0 → SameBesides s t → allFree (limitsOf s) ≡ true → allFree (limitsOf t) ≡ true
+      → ShapeSays s o o₁ r → ShapeSays t o o₂ q → (o₁ ≡ o₂) × (r ≡ q)
   pub one-limit : One-limit
