@@ -127,6 +127,25 @@ fn fill_bend_rates(
     }
 }
 
+// The same by two loops, of which the one without limits asks for none; most lists have none.
+fn lay_bend_rates(
+    darts: usize,
+    limits: &[u8],
+    prices: &[u8],
+    lowers: &mut [u16],
+    uppers: &mut [u16],
+    costs: &mut [u64],
+)
+    requires { ⌜ (length (now lowers) ≡ darts + (darts + darts)) × (length (now uppers) ≡ darts + (darts + darts)) × (length (now costs) ≡ darts + (darts + darts)) ⌝ }
+    ensures { λ r. ⌜ BendRates darts (now (limits .entry)) (now (prices .entry)) darts (now (lowers .exit)) (now (uppers .exit)) (now (costs .exit)) ⌝ }
+{
+    if limits.len() == 0 {
+        fill_bend_rates(darts, b"", prices, lowers, uppers, costs);
+    } else {
+        fill_bend_rates(darts, limits, prices, lowers, uppers, costs);
+    }
+}
+
 // The arcs of the corners, two to each: from the post to the dart's face.
 fn fill_corner_ends(
     posts: usize,
@@ -225,7 +244,7 @@ pub fn lay_network(
     let sizes = q.sizes;
     let outer = posts + face[q.outer as usize] as usize;
     fill_bend_ends(posts, darts, &face, tails, heads);
-    fill_bend_rates(darts, limits, prices, lowers, uppers, costs);
+    lay_bend_rates(darts, limits, prices, lowers, uppers, costs);
     fill_corner_ends(posts, darts, &ends, &face, tails, heads);
     fill_corner_rates(darts, &ends, &degrees, lowers, uppers, costs);
     fill_supplies(outer, supplies);

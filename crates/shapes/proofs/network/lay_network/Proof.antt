@@ -16,7 +16,7 @@ module _ (c : tie.After-slice-known19) where
   abbrev corner-ends : tie.After-fill-corner-ends
   corner-ends = corner-rates .before .before .before .before .before .before .before .before .before .before
 
-  abbrev bend-rates : tie.After-fill-bend-rates
+  abbrev bend-rates : tie.After-lay-bend-rates
   bend-rates = corner-ends .before .before .before .before .before .before .before .before .before .before .before
 
   abbrev bend-ends : tie.After-fill-bend-ends
@@ -43,8 +43,8 @@ slice-aggregate-fill-bend-ends c = search needs
 fill-bend-ends-requires : tie.Need-fill-bend-ends-requires
 fill-bend-ends-requires c κs = let s = c .before .before .before .before .before .before .before .before .before .before .before .before .before .before .before .before .before in (holds-faced (s .args .q) (s .pre .0), s .pre .1 .tails-long, s .pre .1 .heads-long)
 
-fill-bend-rates-requires : tie.Need-fill-bend-rates-requires
-fill-bend-rates-requires c κs = let s = c .before .before .before .before .before .before .before .before .before .before .before .before .before .before .before .before .before .before .before .before .before .before .before .before .before in (s .pre .1 .lowers-long, s .pre .1 .uppers-long, s .pre .1 .costs-long)
+lay-bend-rates-requires : tie.Need-lay-bend-rates-requires
+lay-bend-rates-requires c κs = let s = c .before .before .before .before .before .before .before .before .before .before .before .before .before .before .before .before .before .before .before .before .before .before .before .before .before in (s .pre .1 .lowers-long, s .pre .1 .uppers-long, s .pre .1 .costs-long)
 
 slice-aggregate-fill-corner-ends : tie.Need-slice-aggregate-fill-corner-ends
 slice-aggregate-fill-corner-ends c = sym (c .before .before .before .before .before .before .before .before .before .before .before .before .before .before .before .before .before .before .before .before .before .before .before .before .before .before .before .before .before .before .before .before .before .pre .0 .1 .strip-ends .size)
@@ -67,7 +67,7 @@ slice-aggregate-fill-corner-rates-2 c = sym (c .before .before .before .before .
 fill-corner-rates-requires : tie.Need-fill-corner-rates-requires
 fill-corner-rates-requires c κs =
     let s = c .before .before .before .before .before .before .before .before .before .before .before .before .before .before .before .before .before .before .before .before .before .before .before .before .before .before .before .before .before .before .before .before .before .before .before .before .before .before .before .before .before .before .before .before .before .before in
-    let bend = c .before .before .before .before .before .before .before .before .before .before .before .before .before .before .before .before .before .before .before .before .fill-bend-rates .ensures in
+    let bend = c .before .before .before .before .before .before .before .before .before .before .before .before .before .before .before .before .before .before .before .before .lay-bend-rates .ensures in
     (holds-jointed (s .args .q) (s .pre .0), bend .lowers-begun .size, bend .uppers-begun .size, bend .costs-begun .size)
 
 fill-supplies-requires : tie.Need-fill-supplies-requires
@@ -86,13 +86,13 @@ same-length-2 : tie.Need-same-length-2
 same-length-2 c = corner-ends c .fill-corner-ends .ensures .heads-laid .size ∙ bend-ends c .fill-bend-ends .ensures .heads-begun .size ∙ sym (start c .pre .1 .heads-long)
 
 same-length-3 : tie.Need-same-length-3
-same-length-3 c = corner-rates c .fill-corner-rates .ensures .lowers-laid .size ∙ bend-rates c .fill-bend-rates .ensures .lowers-begun .size ∙ sym (start c .pre .1 .lowers-long)
+same-length-3 c = corner-rates c .fill-corner-rates .ensures .lowers-laid .size ∙ bend-rates c .lay-bend-rates .ensures .lowers-begun .size ∙ sym (start c .pre .1 .lowers-long)
 
 same-length-4 : tie.Need-same-length-4
-same-length-4 c = corner-rates c .fill-corner-rates .ensures .uppers-laid .size ∙ bend-rates c .fill-bend-rates .ensures .uppers-begun .size ∙ sym (start c .pre .1 .uppers-long)
+same-length-4 c = corner-rates c .fill-corner-rates .ensures .uppers-laid .size ∙ bend-rates c .lay-bend-rates .ensures .uppers-begun .size ∙ sym (start c .pre .1 .uppers-long)
 
 same-length-5 : tie.Need-same-length-5
-same-length-5 c = corner-rates c .fill-corner-rates .ensures .costs-laid .size ∙ bend-rates c .fill-bend-rates .ensures .costs-begun .size ∙ sym (start c .pre .1 .costs-long)
+same-length-5 c = corner-rates c .fill-corner-rates .ensures .costs-laid .size ∙ bend-rates c .lay-bend-rates .ensures .costs-begun .size ∙ sym (start c .pre .1 .costs-long)
 
 same-length-6 : tie.Need-same-length-6
 same-length-6 c = search needs
@@ -101,7 +101,7 @@ same-length-7 : tie.Need-same-length-7
 same-length-7 c = search needs
 
 returns : tie.Need-returns
-returns c = λ p s a. network-laid p (start c .args .q) s a (now (start c .args .limits)) (now (start c .args .prices)) (bend-ends c .fill-bend-ends .ensures) (bend-rates c .fill-bend-rates .ensures) (corner-ends c .fill-corner-ends .ensures) (corner-rates c .fill-corner-rates .ensures)
+returns c = λ p s a. network-laid p (start c .args .q) s a (now (start c .args .limits)) (now (start c .args .prices)) (bend-ends c .fill-bend-ends .ensures) (bend-rates c .lay-bend-rates .ensures) (corner-ends c .fill-corner-ends .ensures) (corner-rates c .fill-corner-rates .ensures)
     (table-of (start c .pre .1 .supplies-long) (c .before .before .before .before .before .before .before .fill-supplies .ensures)) (table-of (start c .pre .1 .demands-long) (c .before .before .fill-demands .ensures))
 
 pub lay-network-spec : {M : Type 1} → statement M
@@ -114,7 +114,7 @@ lay-network-spec =
     add-outer
     slice-aggregate-fill-bend-ends
     fill-bend-ends-requires
-    fill-bend-rates-requires
+    lay-bend-rates-requires
     slice-aggregate-fill-corner-ends
     slice-aggregate-fill-corner-ends-2
     fill-corner-ends-requires
