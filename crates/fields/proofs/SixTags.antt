@@ -1,7 +1,7 @@
 -- Where a walk comes to no field 07 each field has the fault that it had by the six tags, so the walk, and what is put in order, are those of before. Assumes nothing.
 use mathlib.Core.Path.{_≡_, refl, sym, ap, ap₂, subst, _∙_}
 use mathlib.Core.Logic.{_↔_}
-use mathlib.Core.Bool.{Bool, true, false, _&&_, _||_, not}
+use mathlib.Core.Bool.{Bool, true, false, _&&_, _||_, not, false≢true}
 use mathlib.Core.List.{List, [], _∷_, _++_, append-nil}
 use Prim.Native.Nat.{ℕ, zero, suc, _+_, _≤_, _<_}
 use native.Mathlib.Omega.{arith}
@@ -9,7 +9,7 @@ use lib.Dec.{eqb, ltb, leb}
 use lib.ListN.{length, getD, drop, length-drop}
 use borrow.Author.Tests.{eqb-false, eq-eqb, leb-true, le-leb, ne-eqb}
 use Rattle.finite.specs.Base.{pick, firstOf, when}
-use Rattle.finite.proofs.Tests.{same-test, and-parts, or-left-false, or-right-false}
+use Rattle.finite.proofs.Tests.{not-true-false, same-test, and-parts, or-left-false, or-right-false}
 use Rattle.fields.specs.Files.{Field, Walk, walk, tagOk, longOk, hasTag, contentOf, addField, headLong, lastTag, fieldAt, faultBy, fieldsWith, fieldsBy, walkBy, oldWalk}
 use Rattle.fields.specs.Ordering.{rising, sorted, bytesIn, isShapeFile, orderedBytes, orderFault, OrderWith, OrderSays}
 use Rattle.fields.specs.Writing.{over}
@@ -17,6 +17,7 @@ use Rattle.fields.specs.Unlimited.{sixTag, sixLong, sixFault, sixWalk, s
 use Rattle.fields.specs.declared.ordering.Ordered.{Ordered}
 use Rattle.fields.proofs.Agree.{at-or, above-four}
 use Rattle.fields.proofs.Added.{has-other}
+use Rattle.fields.proofs.Laid.{all-tags}
 use Rattle.fields.proofs.Rising.{rising-more}
 use Rattle.fields.proofs.Turns.{with-end, with-fault, with-met, from-end, from-fault, from-met, passed-by}
 use Rattle.fields.proofs.Runs.{Run, ended, met, whole-of}
@@ -129,6 +130,19 @@ without o s e =
     run-comes o (suc (length s)) [] s (w .more) (w .run) (omega arith) ∙ sym (ap (λ (v : Walk). hasTag 7 (v .fields)) (w .answer))
 
 -- ---- put in order
+-- a seventh tag that is not there adds nothing
+six-row : (t : ℕ) (fs : List Field) → hasTag (t + 6) fs ≡ false → rising 7 t fs ≡ rising 6 t fs
+six-row t fs absent =
+    rising-more 6 t fs
+    ∙ ap (λ (b : Bool). rising 6 t fs ++ pick b (record { tag = t + 6; content = contentOf (t + 6) fs } ∷ []) []) absent
+    ∙ append-nil (rising 6 t fs)
+
+shape-ordered : (s : List ℕ) → isShapeFile s ≡ true → orderedBytes s ≡ bytesIn (rising 6 17 (oldWalk true s .fields))
+shape-ordered s k =
+    let fs = oldWalk true s .fields in
+    ap (λ (b : Bool). bytesIn (sorted b (oldWalk b s .fields))) k
+    ∙ ap bytesIn (six-row 17 fs (not-true-false (hasTag 23 fs) (λ h. false≢true (all-tags false true s 23 h))))
+
 module _ (s : List ℕ) (k : isShapeFile s ≡ false) (e : comesTo false 7 s ≡ false) where
   abbrev fs : List Field
   fs = oldWalk false s .fields
@@ -136,15 +150,10 @@ module _ (s : List ℕ) (k : isShapeFile s ≡ false) (e : comesTo false 7 s ≡
   same-walk : oldWalk false s ≡ sixWalk false s
   same-walk = walked false s e
 
-  six-row : rising 7 1 fs ≡ rising 6 1 fs
-  six-row =
-      let absent : hasTag 7 fs ≡ false = no-field false (suc (length s)) [] s e refl in
-      rising-more 6 1 fs ∙ ap (λ (b : Bool). rising 6 1 fs ++ pick b (record { tag = 7; content = contentOf 7 fs } ∷ []) []) absent ∙ append-nil (rising 6 1 fs)
-
   same-bytes : orderedBytes s ≡ sixBytes s
   same-bytes =
       ap (λ (b : Bool). bytesIn (sorted b (oldWalk b s .fields))) k
-      ∙ ap bytesIn six-row ∙ ap (λ (w : Walk). bytesIn (rising 6 1 (w .fields))) same-walk
+      ∙ ap bytesIn (six-row 1 fs (no-field false (suc (length s)) [] s e refl)) ∙ ap (λ (w : Walk). bytesIn (rising 6 1 (w .fields))) same-walk
 
   abbrev sixNumber : List ℕ → ℕ
   sixNumber o = firstOf (sixWalk false s .number) (when (ltb (length o) (length (sixBytes s))) 16)
@@ -165,4 +174,4 @@ module _ (s : List ℕ) (k : isShapeFile s ≡ false) (e : comesTo false 7 s ≡
   put o o′ r = subst (λ (n : ℕ). OrderWith n s o o′ r ↔ SixOrdered (sixNumber o) s o o′ r) (sym (same-number o)) (with-six (sixNumber o) o o′ r)
 
 pub six-tags : Six-tags
-six-tags = record { walked = walked; ordered = λ s o o′ r k e. put s k e o o′ r; without = without }
+six-tags = record { walked = walked; ordered = λ s o o′ r k e. put s k e o o′ r; shape-ordered = shape-ordered; without = without }

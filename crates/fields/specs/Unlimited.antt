@@ -1,14 +1,14 @@
 -- Lists without limits of bends, walked as before request E2: by the tags 01 to 06. A list that has no field 07 is walked and put in order as then.
 use mathlib.Core.Path.{_≡_}
 use mathlib.Core.Logic.{_↔_}
-use mathlib.Core.Bool.{Bool, false, _&&_, _||_, not}
+use mathlib.Core.Bool.{Bool, true, false, _&&_, _||_, not}
 use mathlib.Core.List.{List, []}
 use Prim.Native.Nat.{ℕ, zero, suc, _+_, _%_}
 use lib.Dec.{eqb, ltb, leb}
 use lib.ListN.{length, getD, drop}
 use Rattle.finite.specs.Base.{pick, firstOf, when}
-use Rattle.fields.specs.Files.{Field, Walk, hasTag, addField, headLong, lastTag, fieldAt, faultBy, fieldsWith, walkBy}
-use Rattle.fields.specs.Ordering.{rising, bytesIn, isShapeFile, OrderSays}
+use Rattle.fields.specs.Files.{Field, Walk, hasTag, addField, headLong, lastTag, fieldAt, faultBy, fieldsWith, walkBy, oldWalk}
+use Rattle.fields.specs.Ordering.{rising, bytesIn, isShapeFile, orderedBytes, OrderSays}
 use Rattle.fields.specs.Writing.{over}
 use Rattle.fields.specs.declared.ordering.Ordered.{Ordered}
 
@@ -38,7 +38,7 @@ sixFault inOrder fs s =
 abbrev pub sixWalk : Bool → List ℕ → Walk
 sixWalk inOrder s = fieldsWith (sixFault inOrder) (suc (length s)) false [] s
 
--- an older list put in order by them; of a shape file nothing changed
+-- an older list put in order by them, and what the call promised of it
 abbrev pub sixBytes : List ℕ → List ℕ
 sixBytes s = bytesIn (rising 6 1 (sixWalk false s .fields))
 
@@ -61,5 +61,7 @@ pub record Six-tags : Type 0 where
   -- and put in order as before
   pub ordered : (s o o′ : List ℕ) (r : Ordered) → isShapeFile s ≡ false → comesTo false 7 s ≡ false
       → OrderSays s o o′ r ↔ SixOrdered (firstOf (sixWalk false s .number) (when (ltb (length o) (length (sixBytes s))) 16)) s o o′ r
+  -- of a shape file the six tags from its first one on are put in order, as before
+  pub shape-ordered : (s : List ℕ) → isShapeFile s ≡ true → orderedBytes s ≡ bytesIn (rising 6 17 (oldWalk true s .fields))
   -- of a list that the walk takes this says that the field is not there
   pub without : (inOrder : Bool) (s : List ℕ) → walkBy inOrder false s .number ≡ 0 → comesTo inOrder 7 s ≡ hasTag 7 (walkBy inOrder false s .fields)

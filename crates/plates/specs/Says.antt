@@ -29,7 +29,7 @@ fileLong s = fileLongIn (walkAll false s .fields)
 abbrev pub NoneKeeps : Bool → List ℕ → Type 0
 NoneKeeps none s = listFault s ≡ 0 → pickT none (C.NoneWithin s) (C.SomeWithin s)
 
--- told so, 24 exactly where none does
+-- told this: 24 exactly where none does, before 16
 abbrev pub shapeFault : Bool → List ℕ → List ℕ → ℕ
 shapeFault none s o = firstOf (listFault s) (firstOf (when none 24) (when (ltb (length o) (fileLong s)) 16))
 
