@@ -56,6 +56,9 @@ pub fn limits_ok(limits: &[u8], rights: &[u8]) -> bool
     requires { ⌜ (length (now rights) % 2 ≡ 0) × (length (now rights) ≤ 256) ⌝ }
     ensures { λ r. ⌜ r ≡ allWithin (now (limits .entry)) (pairSums (now (rights .entry))) ⌝ }
 {
+    if limits.len() == 0 {
+        return true;
+    }
     let strips = rights.len() / 2;
     let mut i = 0;
     while i < strips {
