@@ -1,6 +1,6 @@
 //! Strip plates: from a plate list to the shape with fewest bends.
 //!
-//! A safe wrapper round the four functions of the verified library. A plate
+//! A safe wrapper round the five functions of the verified library. A plate
 //! list is bytes in fields: one-byte tag, two-byte length (high byte first),
 //! content. [`write_shape`] writes the best shape of a plate list,
 //! [`check_shape`] gives a verdict on a shape file, and [`write_listing`]
