@@ -43,13 +43,17 @@ module _ {s : List ℕ} {rd : ListRead} (h : ReadsList s rd) (z : rd .number ≡
   pub stands : Standing (rd .plate)
   stands = (plateOf s, held .plate, held .accepted)
 
--- an answer has 256 of each count, whether a shape was found or not
+-- what an answer holds, told whether a shape was found: `Answers` with that test apart
+abbrev Told : Plate → List ℕ → BestShape → Bool → Type 0
+Told p ls b found = Either found (Shaped p (BestBy p (rates ls [])) b) (NoShape p (rates ls []) × Blank b)
+
+-- it has 256 of each count either way
 module _ {q : Held} {p : Plate} (ls : List ℕ) (b : BestAnswer) (s : Stands q p) (a : Accepted p) (h : Answers p (rates ls []) b) where
-  long-angles : (f : Bool) → Either f (Shaped p (BestBy p (rates ls [])) (b .shape)) (NoShape p (rates ls []) × Blank (b .shape)) → length (b .shape .angles) ≡ 256
+  long-angles : (f : Bool) → Told p ls (b .shape) f → length (b .shape .angles) ≡ 256
   long-angles true g = g .angles-held .size
   long-angles false g = g .1 .no-angles .size
 
-  long-rights : (f : Bool) → Either f (Shaped p (BestBy p (rates ls [])) (b .shape)) (NoShape p (rates ls []) × Blank (b .shape)) → length (b .shape .rights) ≡ 256
+  long-rights : (f : Bool) → Told p ls (b .shape) f → length (b .shape .rights) ≡ 256
   long-rights true g = g .rights-held .size
   long-rights false g = g .1 .no-rights .size
 
@@ -82,7 +86,7 @@ module _ {s : List ℕ} {rd : ListRead} (b : BestAnswer) (h : ReadsList s rd) (z
   pub given : b .found ≡ true → BestGiven s (rd .fields) (take (rd .plate .darts) (b .shape .angles)) (take (rd .plate .darts) (b .shape .rights)) (b .shape .total)
   given f =
       let l = held h z in
-      let g = subst (λ (e : Bool). Either e (Shaped (plateOf s) (BestBy (plateOf s) (rates (limitsOf s) [])) (b .shape)) (NoShape (plateOf s) (rates (limitsOf s) []) × Blank (b .shape))) f answered in
+      let g = subst (Told (plateOf s) (limitsOf s) (b .shape)) f answered in
       record {
         walked = l .fields;
         no-fault = no-fault h z;
@@ -92,7 +96,7 @@ module _ {s : List ℕ} {rd : ListRead} (b : BestAnswer) (h : ReadsList s rd) (z
       }
 
   pub none-given : b .found ≡ false → NoneWithin s
-  none-given f = subst (λ (e : Bool). Either e (Shaped (plateOf s) (BestBy (plateOf s) (rates (limitsOf s) [])) (b .shape)) (NoShape (plateOf s) (rates (limitsOf s) []) × Blank (b .shape))) f answered .0
+  none-given f = subst (Told (plateOf s) (limitsOf s) (b .shape)) f answered .0
 
 -- a shape file without refusal of its own
 module _ {s t : List ℕ} {g : Fields} (h : ReadsShape s t g) (z : g .number ≡ 0) where

@@ -1,4 +1,4 @@
--- The length of each field's content in a list that passed the walk. Assumes nothing.
+-- The length of each field's content in a list that passed the walk, and what fields with the same contents give. Assumes nothing.
 use mathlib.Core.Path.{_≡_, refl, ap}
 use mathlib.Core.Bool.{Bool, true, false, _&&_}
 use mathlib.Core.List.{List}
@@ -10,7 +10,7 @@ use borrow.Author.Tests.{eqb-true, leb-true}
 use Rattle.finite.proofs.Tests.{and-left, and-right}
 use Rattle.fields.proofs.Laid.{all-laid, absent-none}
 use Rattle.fields.proofs.Runs.{all-there}
-use Rattle.plates.specs.Files.{Field, hasTag, contentOf, walkAll}
+use Rattle.plates.specs.Files.{Field, hasTag, contentOf, walkAll, plateIn, fileBytes}
 
 -- what holds of the fields of a list that passed the walk
 pub record ListFields (fs : List Field) : Type 0 where
@@ -55,3 +55,10 @@ module _ (s : List ℕ) (e : walkAll false s .number ≡ 0) where
         order-most = leb-true (length (contentOf 4 fs)) 256 (all-laid true false s 4 (and-left (hasTag 4 fs) _ there-4));
         remark-most = remark-laid;
       }
+
+-- fields with the same contents give the same plate, and shape files copy the same from them
+pub plate-by : (fs gs : List Field) → contentOf 2 fs ≡ contentOf 2 gs → contentOf 3 fs ≡ contentOf 3 gs → contentOf 4 fs ≡ contentOf 4 gs → contentOf 5 fs ≡ contentOf 5 gs → plateIn fs ≡ plateIn gs
+plate-by fs gs posts ends order outer = rw (posts, ends, order, outer)
+
+pub copied-by : (fs gs : List Field) → contentOf 1 fs ≡ contentOf 1 gs → hasTag 6 fs ≡ hasTag 6 gs → contentOf 6 fs ≡ contentOf 6 gs → (a r : List ℕ) → fileBytes fs a r ≡ fileBytes gs a r
+copied-by fs gs revision there remark a r = rw (revision, there, remark)

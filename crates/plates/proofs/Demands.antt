@@ -1,18 +1,19 @@
 -- The demands of Says and of Claims, whole, and the paper's other sentences on files. Assumes nothing.
-use mathlib.Core.Path.{_≡_, sym, ap, subst, subst₂}
+use mathlib.Core.Path.{_≡_, sym, subst, subst₂}
 use mathlib.Core.Bool.{false}
 use mathlib.Core.List.{List}
 use Prim.Native.Nat.{ℕ, _+_, _*_, _≤_}
 use native.Mathlib.Omega.{arith}
-use lib.ListN.{length, getD}
+use lib.ListN.{length}
 use Rattle.fields.proofs.Longest as Longest
 use Rattle.shapes.proofs.Accepted.{ordered}
 use Rattle.shapes.proofs.Tamassia.{two-to-a-strip}
-use Rattle.plates.specs.Plates.{Plate, plate, strips}
+use Rattle.plates.specs.Plates.{Plate, strips}
 use Rattle.plates.specs.Shapes.{rightsOf, shapeOf}
 use Rattle.plates.specs.Files.{walkAll, listFault, plateOf, limitsOf}
 use Rattle.plates.specs.Claims.{BestWithin}
 use Rattle.plates.specs.Says.{fileLong, remarkLong, SamePlate, Same-shape, Demands, Files}
+use Rattle.plates.proofs.Contents.{plate-by}
 use Rattle.plates.proofs.Fronts.{fronts}
 use Rattle.plates.proofs.Lists.{list-walked, list-accepted, list-demands}
 use Rattle.plates.proofs.Sound.{sound-exactly}
@@ -25,10 +26,7 @@ demands = record { sound-exactly = sound-exactly; all = list-demands; reads-back
 
 -- two lists with the same fields 02 to 05 have the same plate
 pub same-plate : (s t : List ℕ) → SamePlate s t → plateOf s ≡ plateOf t
-same-plate s t h =
-    let posts = ap (λ (c : List ℕ). getD c 0 0) (h .posts) in
-    let outer = ap (λ (c : List ℕ). getD c 0 0) (h .outer) in
-    λ i. plate (posts i) (h .ends i) (h .order i) (outer i)
+same-plate s t h = plate-by (walkAll false s .fields) (walkAll false t .fields) (h .posts) (h .ends) (h .order) (h .outer)
 
 pub same-shape : Same-shape
 same-shape s t a r b q e h x m y n =

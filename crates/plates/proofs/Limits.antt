@@ -29,6 +29,7 @@ use Rattle.plates.specs.Says.{over, remarkLong, fileLong, rightsIn, None
 use Rattle.plates.specs.Listing.{refusedText, Gives, ListingWith, ListingSays}
 use Rattle.plates.specs.Answers.{shaped}
 use Rattle.plates.specs.Limits.{walkFault, sixWalk, comesTo, ShapeBy, ShapeFrom, CheckBy, CheckFrom, ListingBy, ListingFrom, AsUnlimited, SameBesides, limitedLoop, One-limit, Limits}
+use Rattle.plates.proofs.Contents.{plate-by, copied-by}
 use Rattle.plates.proofs.Lists.{list-accepted, list-number, list-demands, best-some, free-some}
 use Rattle.plates.proofs.OneAnswer.{one-number, shape-only}
 use Rattle.plates.proofs.Shaping.{none-says}
@@ -90,12 +91,19 @@ listed s o o′ r e n (none, h, x) = go none (h e) (subst (λ (f : ℕ). Listing
 as-plate : (b : List ℕ) (u : Shape) → allFree (limitsOf b) ≡ true → BestOf b u ↔ Best (plateOf b) u
 as-plate b u free = (free-best (limitsOf b) free, best-free (limitsOf b) free)
 
+-- the number of an accepted list that is not limited: 16 or none
+free-number : (b : List ℕ) → listFault b ≡ 0 → allFree (limitsOf b) ≡ true → (n : Bool) (o : List ℕ) → NoneKeeps n b → shapeFault n b o ≡ when (ltb (length o) (fileLong b)) 16
+free-number b z free n o k =
+    one-number b n false (λ c. firstOf (when c 24) (when (ltb (length o) (fileLong b)) 16)) k (λ y. free-some b y free)
+    ∙ ap (λ (m : ℕ). firstOf m (when (ltb (length o) (fileLong b)) 16)) z
+
+-- two such lists that are the same besides
 module _ (s t : List ℕ) (e : listFault s ≡ 0) (e′ : listFault t ≡ 0) (h : SameBesides s t) (f : allFree (limitsOf s) ≡ true) (g : allFree (limitsOf t) ≡ true) where
   same-plate : plateOf t ≡ plateOf s
-  same-plate = sym (rw (h .content 2 (λ z. omega arith), h .content 3 (λ z. omega arith), h .content 4 (λ z. omega arith), h .content 5 (λ z. omega arith)))
+  same-plate = sym (plate-by (walkAll false s .fields) (walkAll false t .fields) (h .content 2 (λ z. omega arith)) (h .content 3 (λ z. omega arith)) (h .content 4 (λ z. omega arith)) (h .content 5 (λ z. omega arith)))
 
   same-copied : (a x : List ℕ) → fileBytes (walkAll false t .fields) a x ≡ fileBytes (walkAll false s .fields) a x
-  same-copied a x = sym (rw (h .content 1 (λ z. omega arith), h .there 6 (λ z. omega arith), h .content 6 (λ z. omega arith)))
+  same-copied a x = sym (copied-by (walkAll false s .fields) (walkAll false t .fields) (h .content 1 (λ z. omega arith)) (h .there 6 (λ z. omega arith)) (h .content 6 (λ z. omega arith)) a x)
 
   same-bytes : (a x : List ℕ) → shapeBytes (walkAll false t .fields) (shapeOf (plateOf t) a x) ≡ shapeBytes (walkAll false s .fields) (shapeOf (plateOf s) a x)
   same-bytes a x = ap (λ (p : Plate). shapeBytes (walkAll false t .fields) (shapeOf p a x)) same-plate ∙ same-copied a (rightsOf (shapeOf (plateOf s) a x .words))
@@ -106,12 +114,6 @@ module _ (s t : List ℕ) (e : listFault s ≡ 0) (e′ : listFault t ≡ 0) (h 
 
   same-best : (a x : List ℕ) → BestOf t (shapeOf (plateOf t) a x) → BestOf s (shapeOf (plateOf s) a x)
   same-best a x b = as-plate s _ f .1 (subst (λ (p : Plate). Best p (shapeOf p a x)) same-plate (as-plate t _ g .0 b))
-
-  -- the number of an accepted list that is not limited: 16 or none
-  free-number : (b : List ℕ) → listFault b ≡ 0 → allFree (limitsOf b) ≡ true → (n : Bool) (o : List ℕ) → NoneKeeps n b → shapeFault n b o ≡ when (ltb (length o) (fileLong b)) 16
-  free-number b z free n o k =
-      one-number b n false (λ c. firstOf (when c 24) (when (ltb (length o) (fileLong b)) 16)) k (λ y. free-some b y free)
-      ∙ ap (λ (m : ℕ). firstOf m (when (ltb (length o) (fileLong b)) 16)) z
 
   module _ (o o′ : List ℕ) (q : Shaped) where
     with-other : (short : Bool) → ShapeWith (when short 16) t o o′ q → ShapeWith (when short 16) s o o′ q
@@ -133,7 +135,7 @@ module _ (s t : List ℕ) (e : listFault s ≡ 0) (e′ : listFault t ≡ 0) (h 
 no-limits : (b : List ℕ) → hasTag 7 (walkAll false b .fields) ≡ false → allFree (limitsOf b) ≡ true
 no-limits b h = ap allFree (absent-none 7 (walkAll false b .fields) h)
 
--- ---- lists that the walk of which comes to no field 07
+-- ---- lists whose walk comes to no field 07
 module _ (s : List ℕ) (c : comesTo true 7 s ≡ false) where
   abbrev w : Walk
   w = walkAll false s

@@ -6,16 +6,17 @@ use Prim.Native.Nat.{ℕ}
 use Rattle.fields.proofs.Sorted.{kind-of, tag-order}
 use Rattle.plates.specs.Plates.{firstOf, plateFault}
 use Rattle.plates.specs.Files.{Field, Walk, walk, contentOf, walkAll, oldWalk, plateIn, limitsFault, faultFrom, listFault, plateOf, fileBytes}
+use Rattle.plates.proofs.Contents.{plate-by, copied-by}
 use Rattle.plates.specs.Ordering.{isShapeFile, sorted, orderedBytes, SameFields, Taken, oldListFault, Kept-list, Older-lists}
 
 plate-same : (fs gs : List Field) → SameFields fs gs → plateIn fs ≡ plateIn gs
-plate-same fs gs h = rw (h .content 2, h .content 3, h .content 4, h .content 5)
+plate-same fs gs h = plate-by fs gs (h .content 2) (h .content 3) (h .content 4) (h .content 5)
 
 limits-same : (fs gs : List Field) → SameFields fs gs → limitsFault fs ≡ limitsFault gs
 limits-same fs gs h = rw (h .there 7, h .content 7, h .content 3)
 
 copied-same : (fs gs : List Field) → SameFields fs gs → (a r : List ℕ) → fileBytes fs a r ≡ fileBytes gs a r
-copied-same fs gs h a r = rw (h .content 1, h .there 6, h .content 6)
+copied-same fs gs h = copied-by fs gs (h .content 1) (h .there 6) (h .content 6)
 
 module _ (s : List ℕ) (e : oldWalk false s .number ≡ 0) where
   abbrev fs : List Field
