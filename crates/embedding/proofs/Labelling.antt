@@ -71,7 +71,7 @@ pub record Labelling (next : List ℕ) (n d number : ℕ) (face₀ : List ℕ) (
   pub marked : Marked number done face₀ met₀ face met
 
 -- the fuel that is needed is there
-opened : (f : ℕ → ℕ) (k d at : ℕ) → length (walk f (suc k) d at) ≤ k → (j : ℕ) × (k ≡ suc j)
+pub opened : (f : ℕ → ℕ) (k d at : ℕ) → length (walk f (suc k) d at) ≤ k → (j : ℕ) × (k ≡ suc j)
 opened f zero d at l = absurd (omega arith)
 opened f (suc j) d at l = (j, refl)
 

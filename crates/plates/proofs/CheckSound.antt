@@ -37,7 +37,7 @@ module _ (s t : List ℕ) where
   abbrev judged-then : ℕ
   judged-then = firstOf (judgement (plateOf s) (anglesIn t) (rightsIn t)) last
 
-  places : checkFault s t ≡ firstOf (listFault s) (firstOf (shapeFileFault s t) judged-then)
+  pub places : checkFault s t ≡ firstOf (listFault s) (firstOf (shapeFileFault s t) judged-then)
   places =
       let p = plateOf s in
       let a = anglesIn t in
@@ -70,7 +70,7 @@ module _ (s t : List ℕ) where
         refused-check e (places ∙ ap (λ (k : ℕ). firstOf k (firstOf (shapeFileFault s t) judged-then)) none ∙ first-some (shapeFileFault s t) judged-then (λ z. n (q ∙ z)) ∙ sym q) n
 
     module _ (sound-file : shapeFileFault s t ≡ 0) where
-      later : checkFault s t ≡ judged-then
+      pub later : checkFault s t ≡ judged-then
       later = places ∙ ap (λ (k : ℕ). firstOf k (firstOf (shapeFileFault s t) judged-then)) none ∙ ap (λ (k : ℕ). firstOf k judged-then) sound-file
 
       -- judged, then 22, then 25, then sound

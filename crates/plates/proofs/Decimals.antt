@@ -12,7 +12,7 @@ use Rattle.shapes.proofs.Tables.{by-parts}
 use Rattle.plates.specs.Listing.{digit, decimal, numberOf, Decimal}
 use Rattle.plates.proofs.ListingText.{decimal-one, decimal-more}
 
-number-append : (acc : ℕ) (xs ys : List ℕ) → numberOf acc (xs ++ ys) ≡ numberOf (numberOf acc xs) ys
+pub number-append : (acc : ℕ) (xs ys : List ℕ) → numberOf acc (xs ++ ys) ≡ numberOf (numberOf acc xs) ys
 number-append acc [] ys = refl
 number-append acc (x ∷ xs) ys = number-append (10 * acc + (x - 48)) xs ys
 

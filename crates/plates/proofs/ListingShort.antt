@@ -73,7 +73,7 @@ counts-short v a r lv lt lr h =
       lines-short (length r) a r (omega arith) h,
     )
 
-byte-at : (c : List ℕ) (i : ℕ) → allBytes c ≡ true → getD c i 0 < 256
+pub byte-at : (c : List ℕ) (i : ℕ) → allBytes c ≡ true → getD c i 0 < 256
 byte-at [] i e = omega arith
 byte-at (x ∷ xs) zero e = ltb-true x 256 (and-left (ltb x 256) (allBytes xs) e)
 byte-at (x ∷ xs) (suc i) e = byte-at xs i (and-right (ltb x 256) (allBytes xs) e)

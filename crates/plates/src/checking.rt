@@ -14,7 +14,7 @@ use fields::content;
 use fields::number_of;
 
 // The sum of the right bends.
-fn total_of(rights: &[u8]) -> u32
+pub fn total_of(rights: &[u8]) -> u32
     requires { ⌜ length (now rights) ≤ 256 ⌝ }
     ensures { λ r. ⌜ r ≡ total (now (rights .entry)) ⌝ }
 {

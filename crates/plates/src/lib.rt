@@ -25,11 +25,11 @@ use shapes::best::best_by;
 use shapes::judge::judge;
 use shapes::rates::limits_ok;
 
-mod checking;
-mod encoding;
+pub mod checking;
+pub mod encoding;
 pub mod exports;
-mod listing;
-mod reading;
+pub mod listing;
+pub mod reading;
 
 // A shape written: its refusal alone, or 0 with its length and its total bends.
 pub struct Shaped {

@@ -11,7 +11,7 @@ use fields::number_of;
 use fields::writing::copy_at;
 
 // Writes a decimal number from `at` on, and gives the place behind it.
-fn write_decimal(n: usize, out: &mut [u8], at: usize) -> usize
+pub fn write_decimal(n: usize, out: &mut [u8], at: usize) -> usize
     requires { ⌜ at + length (decimal n) ≤ length (now out) ⌝ }
     ensures { λ r. ⌜ Written at (decimal n) (now (out .entry)) (now (out .exit)) r ⌝ }
 {

@@ -37,6 +37,17 @@ total-has [] i = omega arith
 total-has (x ∷ xs) zero = omega arith
 total-has (x ∷ xs) (suc i) = omega (arith, total-has xs i)
 
+-- straightened, strips keep the limits that they kept
+pub straight-keeps : (p : Plate) (o : Ordered p) (ls xs : List ℕ) → length xs ≡ darts p → allWithin ls (pairSums xs) ≡ true → allWithin ls (pairSums (straightened p o xs)) ≡ true
+straight-keeps p o ls xs long within =
+    let t = two-to-a-strip p o in
+    let zs = straightened p o xs in
+    darts-within ls zs (strips p) (length-table (darts p) (λ d. getD xs d 0 - both p o xs d) ∙ sym t)
+    (λ d l.
+    let h : d < darts p = omega arith in
+    fewer-within (getD ls (d / 2) 255) (getD xs d 0 + getD xs (twin d) 0) (getD zs d 0 + getD zs (twin d) 0)
+    (omega (arith, less p o xs d h, less p o xs (twin d) (twin-dart p o d h))) (within-darts ls xs (strips p) (long ∙ sym t) within d l))
+
 -- what comes first of right bends and corners in one list
 module _ (p : Plate) (r : Rates) (x : List ℕ) where
   abbrev units : List ℕ
@@ -193,13 +204,7 @@ module _ (p : Plate) (o : Ordered p) (r : Rates) (most a b c : ℕ) (x : List �
   straight-long = length-table (darts p) (λ d. getD xs d 0 - both p o xs d)
 
   straight-within : allWithin (r .limits) (pairSums zs) ≡ true
-  straight-within =
-      let t = two-to-a-strip p o in
-      darts-within (r .limits) zs (strips p) (straight-long ∙ sym t)
-      (λ d l.
-      let h : d < darts p = omega arith in
-      fewer-within (getD (r .limits) (d / 2) 255) (getD xs d 0 + getD xs (twin d) 0) (getD zs d 0 + getD zs (twin d) 0)
-      (omega (arith, less p o xs d h, less p o xs (twin d) (twin-dart p o d h))) (within-darts (r .limits) xs (strips p) (xs-long ∙ sym t) (k .within) d l))
+  straight-within = straight-keeps p o (r .limits) xs xs-long (k .within)
 
   straight-cheap : pricedSum (r .prices) (pairSums zs) ≤ a
   straight-cheap =

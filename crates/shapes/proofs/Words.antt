@@ -34,12 +34,12 @@ pub turned-twice : (w : List Bool) → turnedOver (turnedOver w []) [] ≡ w
 turned-twice w = turned-back w [] [] ∙ join-none w
 
 -- the test of words
-same-bend : (a b : Bool) → sameB a b ≡ true → a ≡ b
+pub same-bend : (a b : Bool) → sameB a b ≡ true → a ≡ b
 same-bend true b e = sym e
 same-bend false true e = e
 same-bend false false e = refl
 
-bend-same : (b : Bool) → sameB b b ≡ true
+pub bend-same : (b : Bool) → sameB b b ≡ true
 bend-same true = refl
 bend-same false = refl
 
