@@ -14,5 +14,9 @@ pub mod Ordering
 pub mod Loops
 pub mod Joints
 pub mod Limits
+pub mod Text
+pub mod Grammar
+pub mod Lines
+pub mod Texts
 pub mod Tried
 pub mod Books

@@ -27,7 +27,6 @@ use shapes::rates::limits_ok;
 
 pub mod checking;
 pub mod encoding;
-pub mod exports;
 pub mod listing;
 pub mod reading;
 

@@ -1,0 +1,27 @@
+-- Laws that belong to no one function.
+pub mod DecimalOnly
+pub mod Runs
+pub mod EntryFront
+pub mod EntryRead
+pub mod Grammar
+pub mod Refill
+pub mod Around
+pub mod OneWay
+pub mod Placed
+pub mod TextBack
+pub mod BackText
+pub mod RoundTrips
+pub mod LaidLaws
+pub mod FaceLeads
+pub mod LayingLaws
+pub mod PrintLaws
+pub mod CountText
+pub mod WriteLaws
+pub mod ScanLaws
+pub mod FillLaws
+pub mod ParseLaws
+pub mod TwinLaws
+pub mod ReadLaws
+pub mod TextShort
+pub mod Worked
+pub mod OneAnswer
