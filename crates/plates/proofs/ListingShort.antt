@@ -35,7 +35,7 @@ longer b k some h n l = go (ltb n 10) refl
 pub one-digit : Digits 10 1
 one-digit n l = omega (arith, decimal-one-long n l)
 
-two-digits : Digits 100 2
+pub two-digits : Digits 100 2
 two-digits = longer 10 1 (omega arith) one-digit
 
 pub three-digits : Digits 1000 3

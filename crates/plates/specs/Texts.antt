@@ -85,9 +85,12 @@ pub record WentBack (s t b : List ℕ) : Type 0 where
   pub rights : rightsIn b ≡ rightsOf (wordsRead s t)
   pub text : fileText s b ≡ t
 
--- how much memory a text takes at most
-abbrev pub Text-short : Type 0
-Text-short = (s t : List ℕ) → allBytes t ≡ true → checkFault s t ≡ 0 → bothWays (rightsIn t) ≡ false → length (fileText s t) ≤ 67072
+-- how long a text is at most
+pub record Text-short : Type 0 where
+  -- of a sound file that bends no strip both ways
+  pub written : (s t : List ℕ) → allBytes t ≡ true → checkFault s t ≡ 0 → bothWays (rightsIn t) ≡ false → length (fileText s t) ≤ 66962
+  -- no longer one is accepted
+  pub accepted : (s t : List ℕ) → textFault s t ≡ 0 → length t ≤ 66962
 
 pub record RoundTrips : Type 0 where
   -- a sound file that bends no strip both ways, to text and back

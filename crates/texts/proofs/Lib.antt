@@ -23,5 +23,5 @@ pub mod ParseLaws
 pub mod TwinLaws
 pub mod ReadLaws
 pub mod TextShort
-pub mod Worked
+pub mod Tried
 pub mod OneAnswer

@@ -33,7 +33,7 @@ use Rattle.texts.specs.Reads.{countedFault, FileGiven, FileSays}
 use Rattle.texts.specs.declared.planning.Laid.{Laid}
 use Rattle.texts.specs.declared.parsing.Parsed.{Parsed}
 use Rattle.texts.proofs.Grammar.{exact}
-use Rattle.texts.proofs.Refill.{angles-long, words-long, angle-at, word-at}
+use Rattle.texts.proofs.Refill.{word-fits, angles-long, words-long, angle-at, word-at}
 use Rattle.texts.proofs.Around.{around, plan-darts, all-distinct, all-below}
 use Rattle.texts.proofs.OneWay.{word-long}
 use Rattle.texts.proofs.Placed.{Told}
@@ -190,15 +190,7 @@ module _ (p : Plate) (acc : Accepted p) {n : ℕ} (n-is : n ≡ darts p) {q : La
   pub fault-of : {t : List ℕ} {r : Parsed} → ParsedBy (laid n (q .order) (q .ends)) t r → r .number ≡ entriesFault (faceEntries p [] []) t
   fault-of {t} {r} h = h .number ∙ ap (λ (x : List Entry). entriesFault x t) held-plan
 
--- right bends that a text gives fit a byte, and their sum two
-word-fits-by : (d : ℕ) (es : List Entry) → allFormed es ≡ true → length (wordOf d es) ≤ 255
-word-fits-by d [] h = omega arith
-word-fits-by d (e ∷ es) h = go (eqb d (e .dart)) (word-fits-by d es (and-right (entryFormed e) (allFormed es) h))
-  where
-    go : (b : Bool) → length (wordOf d es) ≤ 255 → length (pick b (e .word) (wordOf d es)) ≤ 255
-    go true ih = leb-true (length (e .word)) 255 (and-left (leb (length (e .word)) 255) _ (and-left (entryFormed e) (allFormed es) h))
-    go false ih = ih
-
+-- right bends that each fit a byte
 total-most : (xs : List ℕ) → ((i : ℕ) → i < length xs → getD xs i 0 ≤ 255) → total xs ≤ 255 * length xs
 total-most [] h = omega arith
 total-most (x ∷ xs) h = omega (arith, h 0 (omega arith), total-most xs (λ i l. h (suc i) (omega arith)))
@@ -252,7 +244,7 @@ module _ (s t : List ℕ) (acc : Accepted (plateOf s)) where
               total-most (take n cr) (λ i l.
                   let k : i < n = omega (arith, long-r) in
                   let wd = wordOf i (entriesIn t) in
-                  omega (arith, getD-take n cr i 0 k, tables .rights .at i (omega (arith, n-fits)), word-long wd, word-fits-by i (entriesIn t) (and-left (allFormed (entriesIn t)) _ all))),
+                  omega (arith, getD-take n cr i 0 k, tables .rights .at i (omega (arith, n-fits)), word-long wd, word-fits i (entriesIn t) (and-left (allFormed (entriesIn t)) _ all))),
             );
           }
 

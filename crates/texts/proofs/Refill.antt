@@ -116,6 +116,14 @@ angle-range d (e ∷ es) a h = go (eqb d (e .dart)) h (angle-range d es)
     go true k ih = (leb-true 1 (e .angle) (and-left (leb 1 (e .angle)) _ here), leb-true (e .angle) 4 (and-right (leb 1 (e .angle)) _ here))
     go false k ih = ih (and-right (entryFormed e) (allFormed es) a) k
 
+pub word-fits : (d : ℕ) (es : List Entry) → allFormed es ≡ true → length (wordOf d es) ≤ 255
+word-fits d [] h = omega arith
+word-fits d (e ∷ es) h = go (eqb d (e .dart)) (word-fits d es (and-right (entryFormed e) (allFormed es) h))
+  where
+    go : (b : Bool) → length (wordOf d es) ≤ 255 → length (pick b (e .word) (wordOf d es)) ≤ 255
+    go true ih = leb-true (length (e .word)) 255 (and-left (leb (length (e .word)) 255) _ (and-left (entryFormed e) (allFormed es) h))
+    go false ih = ih
+
 -- by dart, from d on
 pub angles-long : (n d : ℕ) (es : List Entry) → length (anglesBy n d es) ≡ n
 angles-long zero d es = refl

@@ -5,16 +5,16 @@ use mathlib.Core.List.{List}
 use Prim.Native.Nat.{ℕ, suc, _+_, _%_, _≤_, _<_, min}
 use native.Mathlib.Omega.{arith}
 use lib.ListN.{length, getD}
-use Rattle.finite.proofs.Tests.{first-none}
+use Rattle.finite.proofs.Tests.{and-left, first-none}
 use Rattle.embedding.proofs.Rotation.{Ordered, twin-even, twin-below}
 use Rattle.shapes.specs.Claims.{Accepted}
 use Rattle.embedding.proofs.Degrees.{darts-few}
 use Rattle.shapes.proofs.Accepted.{faultless, ordered}
 use Rattle.shapes.proofs.BestFits.{within-one-way}
 use Rattle.shapes.proofs.Tamassia.{two-to-a-strip}
-use Rattle.shapes.proofs.Words.{words-rights}
+use Rattle.shapes.proofs.Words.{words-rights, rights-at, rights-long}
 use Rattle.plates.specs.Plates.{Plate, firstOf, darts, strips, twin}
-use Rattle.plates.specs.Shapes.{Shape, shape, meets, rightsOf, pairSums, stripBends, allWithin, shapeOf}
+use Rattle.plates.specs.Shapes.{Shape, shape, meets, rights, rightsOf, pairSums, stripBends, allWithin, shapeOf}
 use Rattle.plates.specs.Files.{walkAll, listFault, plateOf, limitsOf, fileBytes, shapeBytes}
 use Rattle.plates.specs.Claims.{BestOf}
 use Rattle.plates.specs.Says.{allBytes, fileLong, anglesIn, rightsIn, checkFault}
@@ -23,11 +23,14 @@ use Rattle.plates.proofs.Sound.{sound-exactly}
 use Rattle.plates.proofs.ReadsBack.{written-reads-back, shape-bytes, rights-many}
 use Rattle.plates.proofs.ListingShort.{byte-at}
 use Rattle.plates.proofs.FileBytes.{contents-bytes, shape-bytes-fit}
-use Rattle.plates.specs.Lines.{faceText, bothWays}
+use Rattle.plates.specs.Text.{allFormed}
+use Rattle.plates.specs.Grammar.{entriesIn}
+use Rattle.plates.specs.Lines.{faceText, wordOf, bothWays}
 use Rattle.plates.specs.Texts.{fileText, anglesRead, wordsRead, placedFault, textFault, bytesRead, CameBack, WentBack, RoundTrips, Text-short}
-use Rattle.texts.proofs.OneWay.{one-way, ways-none}
-use Rattle.texts.proofs.CountText.{counted-long}
-use Rattle.texts.proofs.TextShort.{long-most}
+use Rattle.texts.proofs.OneWay.{one-way, ways-none, word-long}
+use Rattle.texts.proofs.Grammar.{exact}
+use Rattle.texts.proofs.Refill.{word-fits, word-at, words-long}
+use Rattle.texts.proofs.TextShort.{text-most}
 use Rattle.texts.proofs.Placed.{Placed, fault-placed, placed-fault}
 use Rattle.texts.proofs.TextBack.{text-placed, angles-come, words-come}
 use Rattle.texts.proofs.BackText.{text-again, read-meets, read-one-way, words-counted}
@@ -82,21 +85,8 @@ module _ (s t : List ℕ) (bytes : allBytes t ≡ true) (none : checkFault s t �
     rights = ap rightsOf (words-come p acc a (x .words) (sound .1) straight few) ∙ counts;
   }
 
-  -- each word has at most 255 digits, so the text is short
-  text-short-here : length (fileText s t) ≤ 67072
-  text-short-here =
-      omega (
-        arith,
-        counted-long p acc a r (sound .0) one,
-        long-most (length r) r (omega (arith, sound .0, darts-few p (faultless p acc) o)) word-few,
-        sound .0,
-        darts-few p (faultless p acc) o,
-      )
-    where
-      word-few : (d : ℕ) → d < length r → getD r d 0 + getD r (twin d) 0 ≤ 255
-      word-few d l =
-          let k : twin d < length r = twin-below (length r) d (ap (λ (n : ℕ). n % 2) (sound .0) ∙ o .even) l in
-          omega (arith, one-way r (ap (λ (n : ℕ). n % 2) (sound .0) ∙ o .even) one d l, byte-at r d (contents-bytes true t bytes 20), byte-at r (twin d) (contents-bytes true t bytes 20))
+  text-short-here : length (fileText s t) ≤ 66962
+  text-short-here = text-most p acc a r (sound .0) one (λ d l. omega (arith, byte-at r d (contents-bytes true t bytes 20)))
 
 -- an accepted text
 module _ (s t : List ℕ) (none : textFault s t ≡ 0) where
@@ -148,6 +138,25 @@ module _ (s t : List ℕ) (none : textFault s t ≡ 0) where
     text = (λ i. faceText p₂ (back .1 i) (shapeOf p₂ (back .1 i) (back .2 i) .words)) ∙ ap (λ (y : Shape). faceText p₂ a₂ (y .words)) counted ∙ text-again p₂ acc₂ t (placed .told);
   }
 
+  accepted-short : length t ≤ 66962
+  accepted-short =
+      let es = entriesIn t in
+      let all = exact .read t (placed .told .form) .1 in
+      let many : length r₂ ≡ darts p₂ = rights-long (wordsRead s t) ∙ words-long (darts p₂) 0 es in
+      omega (
+        arith,
+        ap length (ap (λ (y : Shape). faceText p₂ a₂ (y .words)) counted ∙ text-again p₂ acc₂ t (placed .told)),
+        text-most p₂ acc₂ a₂ r₂ many (read-one-way p₂ acc₂ t (placed .told) (placed .twins-ok))
+            (λ d l.
+            omega (
+              arith,
+              rights-at (wordsRead s t) d,
+              ap rights (word-at (darts p₂) d es (omega (arith, many))),
+              word-long (wordOf d es),
+              word-fits d es (and-left (allFormed es) _ all),
+            )),
+      )
+
 -- our own files: a best shape bends no strip both ways
 module _ (s a r : List ℕ) (e : listFault s ≡ 0) (bytes : allBytes s ≡ true) (best : BestOf s (shapeOf (plateOf s) a r)) (counts : rightsOf (shapeOf (plateOf s) a r .words) ≡ r) where
   abbrev p₃ : Plate
@@ -195,4 +204,7 @@ round-trips = record {
 }
 
 pub text-short : Text-short
-text-short = text-short-here
+text-short = record {
+  written = text-short-here;
+  accepted = accepted-short;
+}

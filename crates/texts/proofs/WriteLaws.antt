@@ -19,33 +19,33 @@ use Rattle.plates.specs.Files.{contentOf, walkAll, listFault, plateOf, limitsOf
 use Rattle.plates.specs.Says.{over, word, anglesIn, rightsIn, checkFault}
 use Rattle.plates.specs.Read.{shapeFileFault, Readable}
 use Rattle.plates.specs.Listing.{Gives}
+use Rattle.plates.specs.Answers.{listed}
 use Rattle.plates.proofs.CheckSound.{places, later}
 use Rattle.plates.proofs.Calls.{read-stands}
 use Rattle.plates.specs.Lines.{faceText, bothWays}
 use Rattle.plates.specs.Texts.{fileText, writeFault, WriteWith, WriteSays}
 use Rattle.texts.specs.Prints.{countsFault, CountsFor, PrintCounts}
-use Rattle.texts.specs.Writes.{refusedText}
 use Rattle.texts.proofs.FaceLeads.{few}
 
 module _ (s t o : List ℕ) where
-  refused-with : (e : ℕ) → (e ≡ 0 → ⊥) → WriteWith e s t o o (refusedText e)
+  refused-with : (e : ℕ) → (e ≡ 0 → ⊥) → WriteWith e s t o o (listed e 0)
   refused-with zero n = absurd (n refl)
   refused-with (suc e) n = (refl, refl, refl)
 
-  refused-write : (e : ℕ) → writeFault s t o ≡ e → (e ≡ 0 → ⊥) → WriteSays s t o o (refusedText e)
-  refused-write e q n = subst (λ (k : ℕ). WriteWith k s t o o (refusedText e)) (sym q) (refused-with e n)
+  refused-write : (e : ℕ) → writeFault s t o ≡ e → (e ≡ 0 → ⊥) → WriteSays s t o o (listed e 0)
+  refused-write e q n = subst (λ (k : ℕ). WriteWith k s t o o (listed e 0)) (sym q) (refused-with e n)
 
-  check-refused : (e : ℕ) → checkFault s t ≡ e → (e ≡ 0 → ⊥) → WriteSays s t o o (refusedText e)
+  check-refused : (e : ℕ) → checkFault s t ≡ e → (e ≡ 0 → ⊥) → WriteSays s t o o (listed e 0)
   check-refused e q n = refused-write e (first-some (checkFault s t) _ (λ z. n (sym q ∙ z)) ∙ q) n
 
-  pub list-refused-write : (e : ℕ) → e ≡ listFault s → (e ≡ 0 → ⊥) → WriteSays s t o o (refusedText e)
+  pub list-refused-write : (e : ℕ) → e ≡ listFault s → (e ≡ 0 → ⊥) → WriteSays s t o o (listed e 0)
   list-refused-write e q n = check-refused e (places s t ∙ first-some (listFault s) _ (λ z. n (q ∙ z)) ∙ sym q) n
 
   abbrev verdict : ℕ
   verdict = firstOf (judgement (plateOf s) (anglesIn t) (rightsIn t)) (firstOf (when (not (eqb (word (contentOf 18 (walkAll true t .fields))) (total (rightsIn t)))) 22) (when (not (allWithin (limitsOf s) (pairSums (rightsIn t)))) 25))
 
   module _ (none : listFault s ≡ 0) where
-    pub file-refused-write : (e : ℕ) → e ≡ shapeFileFault s t → (e ≡ 0 → ⊥) → WriteSays s t o o (refusedText e)
+    pub file-refused-write : (e : ℕ) → e ≡ shapeFileFault s t → (e ≡ 0 → ⊥) → WriteSays s t o o (listed e 0)
     file-refused-write e q n =
         check-refused e (places s t ∙ ap (λ (k : ℕ). firstOf k (firstOf (shapeFileFault s t) verdict)) none ∙ first-some (shapeFileFault s t) verdict (λ z. n (q ∙ z)) ∙ sym q) n
 
@@ -71,7 +71,7 @@ module _ (s t o : List ℕ) where
           ∙ ap (firstOf j) (ap (firstOf e22) (first-assoc e25 e31 short) ∙ first-assoc e22 (firstOf e25 e31) short)
           ∙ first-assoc j (firstOf e22 (firstOf e25 e31)) short
 
-      counts-refused-write : (e : ℕ) → e ≡ countsFault p (limitsOf s) (anglesIn t) (rightsIn t) said → (e ≡ 0 → ⊥) → WriteSays s t o o (refusedText e)
+      counts-refused-write : (e : ℕ) → e ≡ countsFault p (limitsOf s) (anglesIn t) (rightsIn t) said → (e ≡ 0 → ⊥) → WriteSays s t o o (listed e 0)
       counts-refused-write e q n = refused-write e (by-counts ∙ first-some (countsFault p (limitsOf s) (anglesIn t) (rightsIn t) said) short (λ z. n (q ∙ z)) ∙ sym q) n
 
       text-written : (o′ : List ℕ) (r : Listed) → countsFault p (limitsOf s) (anglesIn t) (rightsIn t) said ≡ 0 → Gives (fileText s t) o o′ r → WriteSays s t o o′ r
@@ -163,7 +163,7 @@ module _ {s : List ℕ} {f : Fields} {h : Held} {t : List ℕ} {g : Fields} (rea
     fault-is : number ≡ countsFault (plateOf s) (limitsOf s) (anglesIn t) (rightsIn t) (word (contentOf 18 (walkAll true t .fields)))
     fault-is = fault ∙ (λ i. countsFault (plateOf s) (limits i) (angles i) (rights i) (said-is i))
 
-    pub counts-refused : (o : List ℕ) {v : Listed} → (number ≡ 0 → ⊥) → v ≡ refusedText number → WriteSays s t o o v
+    pub counts-refused : (o : List ℕ) {v : Listed} → (number ≡ 0 → ⊥) → v ≡ listed number 0 → WriteSays s t o o v
     counts-refused o {v} m e = subst (λ (w : Listed). WriteSays s t o o w) (sym e) (counts-refused-write s t o (readable .no-fault) (readable .no-file-fault) number fault-is m)
 
     module _ (z : number ≡ 0) where

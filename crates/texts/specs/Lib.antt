@@ -1,7 +1,6 @@
 -- Shapes as texts of faces: the definitions that the contracts cite.
 pub mod Plan
 pub mod Prints
-pub mod Writes
 pub mod Parses
 pub mod Reads
-pub mod Examples
+pub mod Tried

@@ -1,8 +1,8 @@
 //! Shapes as texts of faces: to text and back.
 ghost use mathlib.Core.Path.{_≡_};
+ghost use Rattle.plates.specs.Answers.{listed};
 ghost use Rattle.plates.specs.Read.{Readable};
 ghost use Rattle.plates.specs.Texts.{WriteSays, ReadSays};
-ghost use Rattle.texts.specs.Writes.{refusedText};
 use crate::counting::counts_fault;
 use crate::counting::print_counts;
 use crate::filing::read_placed;
@@ -25,7 +25,7 @@ pub mod scanning;
 
 // A refusal: its number alone.
 fn refused_text(number: u8) -> Listed
-    ensures { λ r. ⌜ r ≡ refusedText number ⌝ }
+    ensures { λ r. ⌜ r ≡ listed number 0 ⌝ }
 {
     Listed { number, long: 0 }
 }
