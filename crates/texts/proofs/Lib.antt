@@ -24,4 +24,5 @@ pub mod TwinLaws
 pub mod ReadLaws
 pub mod TextShort
 pub mod Tried
+pub mod Within
 pub mod OneAnswer
