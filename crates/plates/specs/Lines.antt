@@ -1,11 +1,13 @@
 -- The text of a plate's shape: per face a line, the outer face first and the others by smallest dart; a line starts at its face's smallest dart and goes round the face.
+use mathlib.Core.Path.{_≡_}
+use mathlib.Core.Logic.{_↔_}
 use mathlib.Core.Bool.{Bool, true, false, _&&_, _||_}
 use mathlib.Core.List.{List, [], _∷_, _++_}
-use Prim.Native.Nat.{ℕ, zero, suc}
+use Prim.Native.Nat.{ℕ, zero, suc, _≤_, _<_}
 use lib.Dec.{eqb, ltb}
 use lib.ListN.{getD}
 use Rattle.embedding.specs.Read.{lead}
-use Rattle.plates.specs.Plates.{Plate, pick, faceOf, faces}
+use Rattle.plates.specs.Plates.{Plate, pick, isIn, distinct, darts, faceOf, faces}
 use Rattle.plates.specs.Shapes.{rights, lefts, sameB, nthW}
 use Rattle.plates.specs.Text.{Entry, entry, textOf}
 
@@ -14,8 +16,11 @@ abbrev pub without : ℕ → List ℕ → List ℕ
 without x [] = []
 without x (y ∷ ys) = pick (eqb x y) (without x ys) (y ∷ without x ys)
 
+abbrev pub others : Plate → List ℕ
+others p = without (lead p (p .outer)) (faces p)
+
 abbrev pub sequence : Plate → List ℕ
-sequence p = lead p (p .outer) ∷ without (lead p (p .outer)) (faces p)
+sequence p = lead p (p .outer) ∷ others p
 
 -- the entries of one line, of all lines, of a shape
 abbrev pub line : List ℕ → List (List Bool) → List ℕ → List Entry
@@ -32,6 +37,32 @@ faceEntries p a ws = lines p a ws (sequence p)
 
 abbrev pub faceText : Plate → List ℕ → List (List Bool) → List ℕ
 faceText p a ws = textOf (faceEntries p a ws)
+
+-- the darts of entries in turn
+abbrev pub dartsOf : List Entry → List ℕ
+dartsOf [] = []
+dartsOf (e ∷ es) = e .dart ∷ dartsOf es
+
+abbrev pub allAbove : ℕ → List ℕ → Bool
+allAbove x [] = true
+allAbove x (y ∷ ys) = ltb x y && allAbove x ys
+
+abbrev pub ascending : List ℕ → Bool
+ascending [] = true
+ascending (x ∷ xs) = allAbove x xs && ascending xs
+
+-- document 02's sentences on the lines of a plate, whatever words and angles they have
+pub record By-faces (p : Plate) : Type 0 where
+  -- the outer face first
+  pub outer-first : isIn (p .outer) (faceOf p (lead p (p .outer))) ≡ true
+  -- the others by smallest dart
+  pub others-ascend : ascending (others p) ≡ true
+  -- a line starts at its face's smallest dart
+  pub starts : (d : ℕ) → isIn d (sequence p) ≡ true → getD (faceOf p d) 0 0 ≡ d
+  pub smallest : (d x : ℕ) → isIn d (sequence p) ≡ true → isIn x (faceOf p d) ≡ true → d ≤ x
+  -- every dart of the plate once, and nothing else
+  pub once : (a : List ℕ) (ws : List (List Bool)) → distinct (dartsOf (faceEntries p a ws)) ≡ true
+  pub every : (a : List ℕ) (ws : List (List Bool)) (d : ℕ) → (isIn d (dartsOf (faceEntries p a ws)) ≡ true) ↔ (d < darts p)
 
 -- the same darts, and the same ends of lines
 abbrev pub sameFaces : List Entry → List Entry → Bool

@@ -4,16 +4,16 @@ use mathlib.Core.Bool.{Bool, true, false, _&&_, not}
 use mathlib.Core.List.{List, []}
 use Prim.Native.Nat.{ℕ, zero, suc, _≤_}
 use lib.Dec.{ltb}
-use lib.ListN.{length}
+use lib.ListN.{length, take}
 use Rattle.plates.specs.declared.Shaped.{Shaped}
 use Rattle.plates.specs.declared.Listed.{Listed}
 use Rattle.plates.specs.Plates.{Plate, firstOf, when, darts, faces}
 use Rattle.plates.specs.Shapes.{twinsOkFrom, postsOk, facesOk, rightsOf, total, pairSums, allWithin, shapeOf}
 use Rattle.plates.specs.Files.{walkAll, listFault, plateOf, limitsOf, fileBytes, shapeBytes}
 use Rattle.plates.specs.Claims.{BestOf}
-use Rattle.plates.specs.Says.{over, allBytes, fileLong, anglesIn, rightsIn, checkFault}
-use Rattle.plates.specs.Grammar.{formOk, entriesIn}
-use Rattle.plates.specs.Lines.{faceEntries, faceText, sameFaces, someMixed, wordsBy, anglesBy, bothWays}
+use Rattle.plates.specs.Says.{over, allBytes, fileLong, anglesIn, rightsIn, checkFault, ShapeSays}
+use Rattle.plates.specs.Grammar.{formOk, entriesIn, Exact}
+use Rattle.plates.specs.Lines.{By-faces, faceEntries, faceText, sameFaces, someMixed, wordsBy, anglesBy, bothWays}
 
 -- the text of the shape that a file t stores for a list s
 abbrev pub fileText : List ℕ → List ℕ → List ℕ
@@ -103,3 +103,23 @@ pub record RoundTrips : Type 0 where
   pub ours : (s a r : List ℕ) → listFault s ≡ 0 → allBytes s ≡ true → BestOf s (shapeOf (plateOf s) a r) → rightsOf (shapeOf (plateOf s) a r .words) ≡ r
       → let b = shapeBytes (walkAll false s .fields) (shapeOf (plateOf s) a r) in
       (checkFault s b ≡ 0) × (bothWays (rightsIn b) ≡ false) × (textFault s (fileText s b) ≡ 0) × (bytesRead s (fileText s b) ≡ b)
+
+-- the same over the calls, whatever memory was lent to the first one
+pub record Called : Type 0 where
+  -- to text and back
+  pub to-and-back : (s t o o′ m m′ : List ℕ) (w : Listed) (r : Shaped) → allBytes t ≡ true → WriteSays s t o o′ w → w .number ≡ 0 → fileLong s ≤ length m → ReadSays s (take (w .long) o′) m m′ r
+      → let b = take (r .long) m′ in (r .number ≡ 0) × (checkFault s b ≡ 0) × (anglesIn b ≡ anglesIn t) × (rightsIn b ≡ rightsIn t)
+  -- back and to text
+  pub back-and-to : (s t o o′ m m′ : List ℕ) (r : Shaped) (w : Listed) → ReadSays s t o o′ r → r .number ≡ 0 → length t ≤ length m → WriteSays s (take (r .long) o′) m m′ w → (w .number ≡ 0) × (take (w .long) m′ ≡ t)
+  -- a shape that was written, to text and back
+  pub ours : (s o o′ m m′ n n′ : List ℕ) (v : Shaped) (w : Listed) (r : Shaped) → allBytes s ≡ true → ShapeSays s o o′ v → v .number ≡ 0
+      → 66962 ≤ length m → WriteSays s (take (v .long) o′) m m′ w → fileLong s ≤ length n → ReadSays s (take (w .long) m′) n n′ r
+      → (w .number ≡ 0) × (r .number ≡ 0) × (take (r .long) n′ ≡ take (v .long) o′)
+
+-- document 02's sentences on texts
+pub record Face-lists : Type 0 where
+  pub form : Exact
+  pub by-faces : (s : List ℕ) → listFault s ≡ 0 → By-faces (plateOf s)
+  pub round-trips : RoundTrips
+  pub called : Called
+  pub short : Text-short

@@ -3,86 +3,50 @@ use mathlib.Core.Path.{_≡_, refl, sym, ap, subst, _∙_}
 use mathlib.Core.Bool.{Bool, true, false}
 use mathlib.Core.List.{List, [], _∷_, _++_}
 use mathlib.Core.Logic.{⊎-elim}
-use Prim.Native.Nat.{ℕ, suc, _<_}
+use Prim.Native.Nat.{ℕ, zero, suc, _≤_, _<_}
+use native.Mathlib.Omega.{arith}
 use lib.Dec.{eqb}
-use lib.ListN.{length}
+use lib.ListN.{length, getD}
 use borrow.Author.Tests.{eqb-true, eqb-false}
-use Rattle.finite.proofs.Tests.{not-both, not-true-false, equal-or-not}
+use Rattle.finite.proofs.Tests.{and-both, not-both, not-true-false, equal-or-not}
 use Rattle.finite.proofs.Members.{in-none, in-here, in-more, in-cases, in-append, in-left, in-right, all-of, distinct-head, distinct-rest, distinct-more}
 use Rattle.finite.proofs.Pigeonhole.{length-members, sum-over-members}
 use Rattle.finite.proofs.Sums.{sumBelow, sumOver, sum-cong, sum-ones}
 use Rattle.embedding.proofs.Rotation.{Ordered}
-use Rattle.embedding.proofs.Faces.{faces-distinct, faces-below, face-start, face-distinct, face-below, lead-in-faces, lead-face, face-lead}
+use Rattle.embedding.proofs.Faces.{from-in, faces-distinct, faces-below, lead-least, face-start, face-distinct, face-below, lead-in-faces, lead-face, face-lead}
 use Rattle.embedding.specs.Read.{lead}
-use Rattle.plates.specs.Plates.{Plate, pick, when, isIn, distinct, darts, faceOf, faces}
+use Rattle.plates.specs.Plates.{Plate, pick, when, isIn, isLowest, distinct, darts, walkFrom, faceOf, facesFrom, faces}
 use Rattle.plates.specs.Text.{Entry, closed}
-use Rattle.plates.specs.Lines.{without, sequence, line, lines, faceEntries}
-use Rattle.texts.specs.Plan.{dartsOf}
+use Rattle.plates.specs.Lines.{without, sequence, line, lines, faceEntries, dartsOf, allAbove, ascending, By-faces}
+use Rattle.texts.proofs.Without.{out-in, in-out, not-out, out-distinct, out-ascending, in-above, distinct-append}
 
 -- the darts of faces one behind the other
 abbrev pub around : Plate → List ℕ → List ℕ
 around p [] = []
 around p (d ∷ ds) = faceOf p d ++ around p ds
 
-line-darts : (ds : List ℕ) → dartsOf (line [] [] ds) ≡ ds
-line-darts [] = refl
-line-darts (d ∷ []) = refl
-line-darts (d ∷ (e ∷ ds)) = ap (λ (l : List ℕ). d ∷ l) (line-darts (e ∷ ds))
+line-darts : (a : List ℕ) (ws : List (List Bool)) (ds : List ℕ) → dartsOf (line a ws ds) ≡ ds
+line-darts a ws [] = refl
+line-darts a ws (d ∷ []) = refl
+line-darts a ws (d ∷ (e ∷ ds)) = ap (λ (l : List ℕ). d ∷ l) (line-darts a ws (e ∷ ds))
 
 pub darts-append : (xs ys : List Entry) → dartsOf (xs ++ ys) ≡ dartsOf xs ++ dartsOf ys
 darts-append [] ys = refl
 darts-append (x ∷ xs) ys = ap (λ (l : List ℕ). x .dart ∷ l) (darts-append xs ys)
 
-lines-darts : (p : Plate) (ds : List ℕ) → dartsOf (lines p [] [] ds) ≡ around p ds
-lines-darts p [] = refl
-lines-darts p (d ∷ ds) = darts-append (line [] [] (faceOf p d)) (lines p [] [] ds) ∙ (λ i. line-darts (faceOf p d) i ++ lines-darts p ds i)
+lines-darts : (p : Plate) (a : List ℕ) (ws : List (List Bool)) (ds : List ℕ) → dartsOf (lines p a ws ds) ≡ around p ds
+lines-darts p a ws [] = refl
+lines-darts p a ws (d ∷ ds) = darts-append (line a ws (faceOf p d)) (lines p a ws ds) ∙ (λ i. line-darts a ws (faceOf p d) i ++ lines-darts p a ws ds i)
 
 darts-long : (es : List Entry) → length (dartsOf es) ≡ length es
 darts-long [] = refl
 darts-long (e ∷ es) = ap suc (darts-long es)
 
+entries-darts : (p : Plate) (a : List ℕ) (ws : List (List Bool)) → dartsOf (faceEntries p a ws) ≡ around p (sequence p)
+entries-darts p a ws = lines-darts p a ws (sequence p)
+
 pub plan-darts : (p : Plate) → dartsOf (faceEntries p [] []) ≡ around p (sequence p)
-plan-darts p = lines-darts p (sequence p)
-
--- one face taken out of the list
-out-in : (x y : ℕ) (ys : List ℕ) → isIn y (without x ys) ≡ true → isIn y ys ≡ true
-out-in x y [] h = h
-out-in x y (z ∷ ys) h = go (eqb x z) h (out-in x y ys)
-  where
-    go : (b : Bool) → isIn y (pick b (without x ys) (z ∷ without x ys)) ≡ true → (isIn y (without x ys) ≡ true → isIn y ys ≡ true) → isIn y (z ∷ ys) ≡ true
-    go true k ih = in-more y z ys (ih k)
-    go false k ih = ⊎-elim (λ q. subst (λ (w : ℕ). isIn y (w ∷ ys) ≡ true) q (in-here y ys)) (λ q. in-more y z ys (ih q)) (in-cases y z (without x ys) k)
-
-in-out : (x y : ℕ) (ys : List ℕ) → (x ≡ y → ⊥) → isIn y ys ≡ true → isIn y (without x ys) ≡ true
-in-out x y [] n h = h
-in-out x y (z ∷ ys) n h = go (eqb x z) refl (in-out x y ys n)
-  where
-    go : (b : Bool) → eqb x z ≡ b → (isIn y ys ≡ true → isIn y (without x ys) ≡ true) → isIn y (pick b (without x ys) (z ∷ without x ys)) ≡ true
-    go true e ih = ⊎-elim (λ q. absurd (n (eqb-true x z e ∙ sym q))) ih (in-cases y z ys h)
-    go false e ih = ⊎-elim (λ q. subst (λ (w : ℕ). isIn y (w ∷ without x ys) ≡ true) q (in-here y (without x ys))) (λ q. in-more y z (without x ys) (ih q)) (in-cases y z ys h)
-
-not-out : (x : ℕ) (ys : List ℕ) → isIn x (without x ys) ≡ true → ⊥
-not-out x [] h = in-none x h
-not-out x (z ∷ ys) h = go (eqb x z) refl h (not-out x ys)
-  where
-    go : (b : Bool) → eqb x z ≡ b → isIn x (pick b (without x ys) (z ∷ without x ys)) ≡ true → (isIn x (without x ys) ≡ true → ⊥) → ⊥
-    go true e k ih = ih k
-    go false e k ih = ⊎-elim (λ q. eqb-false x z e q) ih (in-cases x z (without x ys) k)
-
-out-distinct : (x : ℕ) (ys : List ℕ) → distinct ys ≡ true → distinct (without x ys) ≡ true
-out-distinct x [] h = refl
-out-distinct x (z ∷ ys) h = go (eqb x z) (out-distinct x ys (distinct-rest z ys h))
-  where
-    go : (b : Bool) → distinct (without x ys) ≡ true → distinct (pick b (without x ys) (z ∷ without x ys)) ≡ true
-    go true ih = ih
-    go false ih = distinct-more z (without x ys) (not-true-false (isIn z (without x ys)) (λ k. not-both (out-in x z ys k) (distinct-head z ys h))) ih
-
-distinct-append : (xs ys : List ℕ) → distinct xs ≡ true → distinct ys ≡ true → ((x : ℕ) → isIn x xs ≡ true → isIn x ys ≡ true → ⊥) → distinct (xs ++ ys) ≡ true
-distinct-append [] ys h k apart = k
-distinct-append (x ∷ xs) ys h k apart =
-    distinct-more x (xs ++ ys)
-    (not-true-false (isIn x (xs ++ ys)) (λ q. ⊎-elim (λ z. not-both z (distinct-head x xs h)) (λ z. apart x (in-here x xs) z) (in-append x xs ys q)))
-    (distinct-append xs ys (distinct-rest x xs h) k (λ y a b. apart y (in-more y x xs a) b))
+plan-darts p = entries-darts p [] []
 
 module _ (p : Plate) (o : Ordered p) where
   abbrev Leads : List ℕ → Type 0
@@ -177,3 +141,31 @@ plan-closed p o l = lines-closed p o (sequence p) (λ d h. faces-below p d (sequ
 
 pub plan-many : (p : Plate) → Ordered p → p .outer < darts p → length (faceEntries p [] []) ≡ darts p
 plan-many p o l = sym (darts-long (faceEntries p [] [])) ∙ ap length (plan-darts p) ∙ all-many p o l
+
+-- the lines in the request's words
+faces-ascend : (p : Plate) (n a : ℕ) → ascending (facesFrom n a p) ≡ true
+faces-ascend p zero a = refl
+faces-ascend p (suc n) a = go (isLowest a (faceOf p a)) (faces-ascend p n (suc a))
+  where
+    go : (b : Bool) → ascending (facesFrom n (suc a) p) ≡ true → ascending (pick b (a ∷ []) [] ++ facesFrom n (suc a) p) ≡ true
+    go true ih = and-both (allAbove a (facesFrom n (suc a) p)) _ (in-above a (facesFrom n (suc a) p) (λ y k. omega (arith, from-in p n (suc a) y k .0))) ih
+    go false ih = ih
+
+first-dart : (p : Plate) (n d : ℕ) → 0 < n → getD (walkFrom n p d d) 0 0 ≡ d
+first-dart p zero d l = absurd (omega arith)
+first-dart p (suc n) d l = refl
+
+pub by-faces : (p : Plate) → Ordered p → p .outer < darts p → By-faces p
+by-faces p o l =
+    let lead-least-at : (x : ℕ) → x < darts p → lead p x ≤ x = λ x k. lead-least p o x k x (face-start p o x k) in
+    record {
+      outer-first = lead-face p o (p .outer) l;
+      others-ascend = out-ascending (lead p (p .outer)) (faces p) (faces-ascend p (darts p) 0);
+      starts = λ d k. first-dart p (darts p) d (omega (arith, faces-below p d (sequence-leads p o l d k)));
+      smallest = λ d x k j.
+          let d-in = sequence-leads p o l d k in
+          let x-below : x < darts p = face-below p o d (faces-below p d d-in) x j in
+          omega (arith, face-lead p o d x x-below d-in j, lead-least-at x x-below);
+      once = λ a ws. ap distinct (entries-darts p a ws) ∙ all-distinct p o l;
+      every = λ a ws d. (λ h. all-below p o l d (sym (ap (isIn d) (entries-darts p a ws)) ∙ h), λ k. ap (isIn d) (entries-darts p a ws) ∙ all-there p o l d k);
+    }

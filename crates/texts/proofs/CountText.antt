@@ -19,8 +19,8 @@ use Rattle.plates.proofs.ListingRows.{gives-whole}
 use Rattle.plates.specs.Plates.{Plate, isIn, twin, darts, strips}
 use Rattle.plates.specs.Shapes.{rights, lefts, nthW, rightsOf, evenWord, shapeOf}
 use Rattle.plates.specs.Text.{Entry, textOf}
-use Rattle.plates.specs.Lines.{faceEntries, faceText, bothWays}
-use Rattle.texts.specs.Plan.{dartsOf, laid, PlanHeld}
+use Rattle.plates.specs.Lines.{faceEntries, faceText, bothWays, dartsOf}
+use Rattle.texts.specs.Plan.{laid, PlanHeld}
 use Rattle.texts.specs.Prints.{countWord, countEntries, entryLong, longUpTo, Straight, PrintRoom}
 use Rattle.texts.specs.declared.planning.Laid.{Laid}
 use Rattle.texts.proofs.OneWay.{one-way}

@@ -17,8 +17,8 @@ use Rattle.finite.proofs.Members.{in-none, in-here, in-more, in-cases, distinct
 use Rattle.plates.specs.Plates.{pick, isIn, distinct}
 use Rattle.plates.specs.Shapes.{rights, lefts, sameB}
 use Rattle.plates.specs.Text.{Entry, entry}
-use Rattle.plates.specs.Lines.{isMixed, someMixed, sameFaces, wordOf, angleOf}
-use Rattle.texts.specs.Plan.{dartsOf, laid}
+use Rattle.plates.specs.Lines.{isMixed, someMixed, sameFaces, wordOf, angleOf, dartsOf}
+use Rattle.texts.specs.Plan.{laid}
 use Rattle.texts.specs.Parses.{capped, GotIs, fits, Tables, FilledBy, PlanArrays, Sized, TakenPlanned}
 use Rattle.texts.specs.declared.scanning.Got.{Got}
 use Rattle.texts.specs.declared.parsing.Filled.{Filled}

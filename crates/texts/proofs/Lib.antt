@@ -5,6 +5,7 @@ pub mod EntryFront
 pub mod EntryRead
 pub mod Grammar
 pub mod Refill
+pub mod Without
 pub mod Around
 pub mod OneWay
 pub mod Placed
@@ -25,4 +26,6 @@ pub mod ReadLaws
 pub mod TextShort
 pub mod Tried
 pub mod Within
+pub mod Called
+pub mod FaceLists
 pub mod OneAnswer

@@ -20,7 +20,8 @@ use Rattle.plates.specs.Shapes.{someFalse, evenWord}
 use Rattle.plates.specs.Listing.{decimal}
 use Rattle.plates.proofs.ListingText.{decimal-one-long, decimal-more-long, byte-written}
 use Rattle.plates.specs.Text.{Entry, entry, bendDigits, wordText, angleText, entryText, textOf}
-use Rattle.texts.specs.Plan.{dartsOf, laid}
+use Rattle.plates.specs.Lines.{dartsOf}
+use Rattle.texts.specs.Plan.{laid}
 use Rattle.texts.specs.Prints.{countWord, countEntries, entryLong, longUpTo, EntryRoom, PrintRoom}
 use Rattle.texts.proofs.Around.{darts-append}
 use Rattle.texts.proofs.TextBack.{angle-in}

@@ -25,9 +25,9 @@ use Rattle.plates.specs.Encodes.{ToWrite, FileWritten, refusedShape}
 use Rattle.plates.proofs.FileRows.{darts-most, remark-most}
 use Rattle.plates.specs.Text.{Entry, entryFormed, allFormed}
 use Rattle.plates.specs.Grammar.{formOk, entriesIn}
-use Rattle.plates.specs.Lines.{faceEntries, sequence, sameFaces, someMixed, wordOf, wordsBy, anglesBy}
+use Rattle.plates.specs.Lines.{faceEntries, sequence, sameFaces, someMixed, wordOf, wordsBy, anglesBy, dartsOf}
 use Rattle.plates.specs.Texts.{wordsRead, placedFault, textFault, bytesRead, readFault, ReadWith, ReadSays}
-use Rattle.texts.specs.Plan.{dartsOf, laid, PlanHeld}
+use Rattle.texts.specs.Plan.{laid, PlanHeld}
 use Rattle.texts.specs.Parses.{Tables, PlanArrays, entriesFault, twinCounts, ParsedBy}
 use Rattle.texts.specs.Reads.{countedFault, FileGiven, FileSays}
 use Rattle.texts.specs.declared.planning.Laid.{Laid}

@@ -14,7 +14,8 @@ use Rattle.shapes.proofs.Words.{same-bend, bend-same}
 use Rattle.plates.specs.Plates.{Plate, pick, isIn, distinct, faceOf}
 use Rattle.plates.specs.Shapes.{sameB, nthW, countW}
 use Rattle.plates.specs.Text.{Entry, entry, entryFormed, allFormed, closed}
-pub use Rattle.texts.specs.Plan.{dartsOf, refill}
+pub use Rattle.plates.specs.Lines.{dartsOf}
+pub use Rattle.texts.specs.Plan.{refill}
 use Rattle.plates.specs.Lines.{line, lines, sequence, faceEntries, sameFaces, isMixed, someMixed, wordOf, angleOf, wordsBy, anglesBy}
 
 pub refill-cong : (F G : ℕ → List Bool) (A B : ℕ → ℕ) (es : List Entry) → ((d : ℕ) → isIn d (dartsOf es) ≡ true → (F d ≡ G d) × (A d ≡ B d)) → refill F A es ≡ refill G B es

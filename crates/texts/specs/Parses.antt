@@ -11,8 +11,8 @@ use Rattle.plates.specs.Shapes.{rights, lefts, sameB}
 use Rattle.plates.specs.Listing.{numberOf}
 use Rattle.plates.specs.Text.{Entry}
 use Rattle.plates.specs.Grammar.{numberLong, numberOk, wordLong, wordOk, wordIn, entryOk, entryIn, behind, formOk, entriesIn}
-use Rattle.plates.specs.Lines.{someMixed, sameFaces, wordOf, angleOf}
-use Rattle.texts.specs.Plan.{dartsOf, laid}
+use Rattle.plates.specs.Lines.{someMixed, sameFaces, wordOf, angleOf, dartsOf}
+use Rattle.texts.specs.Plan.{laid}
 use Rattle.texts.specs.declared.scanning.Number.{Number}
 use Rattle.texts.specs.declared.scanning.Word.{Word}
 use Rattle.texts.specs.declared.scanning.Got.{Got}

@@ -14,10 +14,6 @@ use Rattle.plates.specs.Text.{Entry, entry}
 use Rattle.plates.specs.Lines.{without, line, lines, faceEntries}
 use Rattle.texts.specs.declared.planning.Laid.{Laid}
 
-abbrev pub dartsOf : List Entry → List ℕ
-dartsOf [] = []
-dartsOf (e ∷ es) = e .dart ∷ dartsOf es
-
 -- the word F d and the angle A d for each dart d
 abbrev pub refill : (ℕ → List Bool) → (ℕ → ℕ) → List Entry → List Entry
 refill F A [] = []
