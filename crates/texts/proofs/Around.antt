@@ -5,9 +5,7 @@ use mathlib.Core.List.{List, [], _∷_, _++_}
 use mathlib.Core.Logic.{⊎-elim}
 use Prim.Native.Nat.{ℕ, zero, suc, _≤_, _<_}
 use native.Mathlib.Omega.{arith}
-use lib.Dec.{eqb}
 use lib.ListN.{length, getD}
-use borrow.Author.Tests.{eqb-true, eqb-false}
 use Rattle.finite.proofs.Tests.{and-both, not-both, not-true-false, equal-or-not}
 use Rattle.finite.proofs.Members.{in-none, in-here, in-more, in-cases, in-append, in-left, in-right, all-of, distinct-head, distinct-rest, distinct-more}
 use Rattle.finite.proofs.Pigeonhole.{length-members, sum-over-members}

@@ -4,11 +4,11 @@ use mathlib.Core.Bool.{Bool, true, false, _&&_, not}
 use mathlib.Core.List.{List, [], _∷_}
 use Prim.Native.Nat.{ℕ, zero, suc, _*_, _≤_, _<_}
 use native.Mathlib.Omega.{arith}
-use lib.Dec.{eqb, ltb, leb}
+use lib.Dec.{ltb}
 use lib.ListN.{length, getD, take}
 use lib.Seq.{ext-getD, getD-take, length-take-le}
-use borrow.Author.Tests.{lt-ltb, le-ltb, leb-true, not-false}
-use Rattle.finite.proofs.Tests.{and-left, and-right, first-none, when-none, first-some, first-assoc}
+use borrow.Author.Tests.{lt-ltb, le-ltb, not-false}
+use Rattle.finite.proofs.Tests.{and-left, first-none, when-none, first-some, first-assoc}
 use Rattle.fields.specs.declared.Fields.{Fields}
 use Rattle.embedding.proofs.Degrees.{darts-few}
 use Rattle.shapes.specs.Claims.{Accepted}
@@ -16,14 +16,14 @@ use Rattle.shapes.specs.Judge.{judgement}
 use Rattle.shapes.proofs.Accepted.{faultless, ordered}
 use Rattle.shapes.proofs.Words.{rights-at, rights-long}
 use Rattle.plates.specs.declared.Shaped.{Shaped}
-use Rattle.plates.specs.Plates.{Plate, pick, pickT, firstOf, when, isIn, distinct, darts, faces}
+use Rattle.plates.specs.Plates.{Plate, pickT, firstOf, when, isIn, distinct, darts, faces}
 use Rattle.plates.specs.Shapes.{Shape, rights, rightsOf, total, postsOk, facesOk, twinsOkFrom, pairSums, allWithin, shapeOf}
 use Rattle.plates.specs.Files.{walkAll, listFault, plateOf, limitsOf, fileBytes}
 use Rattle.plates.specs.Says.{over, fileLong}
 use Rattle.plates.specs.Read.{Walked}
 use Rattle.plates.specs.Encodes.{ToWrite, FileWritten, refusedShape}
 use Rattle.plates.proofs.FileRows.{darts-most, remark-most}
-use Rattle.plates.specs.Text.{Entry, entryFormed, allFormed}
+use Rattle.plates.specs.Text.{Entry, allFormed}
 use Rattle.plates.specs.Grammar.{formOk, entriesIn}
 use Rattle.plates.specs.Lines.{faceEntries, sequence, sameFaces, someMixed, wordOf, wordsBy, anglesBy, dartsOf}
 use Rattle.plates.specs.Texts.{wordsRead, placedFault, textFault, bytesRead, readFault, ReadWith, ReadSays}

@@ -2,14 +2,13 @@
 use mathlib.Core.Path.{_≡_, sym, ap, subst, _∙_}
 use mathlib.Core.Bool.{true, false}
 use mathlib.Core.List.{List}
-use Prim.Native.Nat.{ℕ, suc, _+_, _%_, _≤_, _<_, min}
+use Prim.Native.Nat.{ℕ, suc, _%_, _≤_, _<_, min}
 use native.Mathlib.Omega.{arith}
 use lib.ListN.{length, getD}
 use Rattle.finite.proofs.Tests.{and-left, first-none}
-use Rattle.embedding.proofs.Rotation.{Ordered, twin-even, twin-below}
+use Rattle.embedding.proofs.Rotation.{Ordered, twin-even}
 use Rattle.shapes.specs.Claims.{Accepted}
-use Rattle.embedding.proofs.Degrees.{darts-few}
-use Rattle.shapes.proofs.Accepted.{faultless, ordered}
+use Rattle.shapes.proofs.Accepted.{ordered}
 use Rattle.shapes.proofs.BestFits.{within-one-way}
 use Rattle.shapes.proofs.Tamassia.{two-to-a-strip}
 use Rattle.shapes.proofs.Words.{words-rights, rights-at, rights-long}
