@@ -2,7 +2,7 @@
  * file to the same in tag order; and from a book of entries to the current
  * revision of a model.
  *
- * Link with libplates.a (x86-64 Linux); it needs the C library only.
+ * Link with libstripplates.a (x86-64 Linux); it needs the C library only.
  *
  * Every function returns 0 for success or the number of its refusal, and no
  * function has a precondition on the bytes that it is given. The memory lent

@@ -4,7 +4,7 @@ use std::env;
 use std::path::{Path, PathBuf};
 use std::process::Command;
 
-const ARCHIVE: &str = "libplates.a";
+const ARCHIVE: &str = "libstripplates.a";
 
 fn main() {
     println!("cargo:rerun-if-changed=build.rs");
@@ -21,7 +21,7 @@ fn main() {
         "cargo:rustc-link-search=native={}",
         folder.to_string_lossy()
     );
-    println!("cargo:rustc-link-lib=static=plates");
+    println!("cargo:rustc-link-lib=static=stripplates");
 }
 
 /// The folder that `rt staticlib` writes to; it is run if the archive is not there.
@@ -41,9 +41,12 @@ fn built_folder() -> PathBuf {
 /// Proves the library and writes the archive.
 fn build_archive(root: &Path) {
     let status = Command::new("rt")
-        .args(["staticlib", "plates"])
+        .args(["staticlib", "stripplates"])
         .current_dir(root)
         .status()
-        .expect("the command rt is needed to build libplates.a, or PLATES_LIB_DIR to find it");
-    assert!(status.success(), "rt staticlib plates failed: {status}");
+        .expect("the command rt is needed to build libstripplates.a, or PLATES_LIB_DIR to find it");
+    assert!(
+        status.success(),
+        "rt staticlib stripplates failed: {status}"
+    );
 }

@@ -47,7 +47,7 @@ fn printed_by_c(name: &str) -> String {
         .args(["-std=c99", "-Wall", "-Wextra", "-Werror", "-I"])
         .arg(root.join("include"))
         .arg(package.join("c").join(name).with_extension("c"))
-        .arg(archive_folder(root).join("libplates.a"))
+        .arg(archive_folder(root).join("libstripplates.a"))
         .arg("-o")
         .arg(&program)
         .status();
