@@ -1,6 +1,6 @@
-/* Strip plates: from a plate list to the shape with fewest bends; from an older
- * file to the same in tag order; and from a book of entries to the current
- * revision of a model.
+/* Strip plates: from a plate list to the shape with fewest bends; from a shape
+ * file to its text of faces and back; from an older file to the same in tag
+ * order; and from a book of entries to the current revision of a model.
  *
  * Link with libstripplates.a (x86-64 Linux); it needs the C library only.
  *
@@ -23,9 +23,11 @@
 extern "C" {
 #endif
 
-/* Refusals, in the order in which they are tried. "File" is the plate list
- * or, for plates_check_shape, the plate list first and then the shape, or for
- * plates_order_fields the older file, which 29 does not concern. 40 to 42 are
+/* Refusals, in the order in which they are tried, but 16 always as the last.
+ * "File" is the plate list or, for plates_check_shape and plates_write_text, the
+ * plate list first and then the shape, or for plates_order_fields the older
+ * file, which 29 does not concern. plates_read_text tries 30, 31 and 32 straight
+ * after the plate list, then 20, 21 and 25. 40 to 42 are
  * plates_current_revision's alone. */
 enum plates_refusal {
     PLATES_ACCEPTED = 0,
@@ -64,6 +66,14 @@ enum plates_refusal {
     PLATES_TURNS_OF_FACE = 21,     /* turns of some face do not add to +4, outer -4 */
     PLATES_TOTAL_DIFFERS = 22,     /* total is not the sum of the right bends */
     PLATES_LIMIT_PASSED = 25,      /* a strip has more bends than its limit */
+
+    /* text of faces: each over the whole text before the next */
+    PLATES_TEXT_FORM = 30,         /* a line not of the form, or a word of over 255 digits */
+    PLATES_MIXED_WORD = 31,        /* a word with both digits; to text: some strip bends
+                                      both ways */
+    PLATES_TEXT_FACES = 32,        /* faces, with their sequence and starts, that are not
+                                      the plate's, or words that do not agree across a
+                                      strip */
 
     /* book of entries: all three at one entry before the next entry */
     PLATES_ENTRY_CUT = 40,         /* the last entry has under six bytes */
@@ -118,6 +128,51 @@ uint8_t plates_check_shape(const uint8_t *list, size_t list_len,
  * *long_ is 0. No other number is returned. */
 uint8_t plates_write_listing(const uint8_t *list, size_t list_len,
                              uint8_t *out, size_t out_len, size_t *long_);
+
+/* Writes the text of faces of a sound shape file to the front of `out`.
+ *
+ * The text has a line for each face, the outer one first and the others by
+ * their smallest dart. A line starts at the smallest dart of its face and goes
+ * round the face, with a triple for each dart: the dart's number, its bend word
+ * and its angle, 1 to 4. A bend word has a digit for each bend along the dart, 0
+ * for right and 1 for left, and is - where there is none. Numbers have no
+ * leading zeros, one space stands between two items, and each line ends with a
+ * line feed. There is no null byte.
+ *
+ * 0: the first *long_ bytes of `out` are the text and the bytes behind them are
+ * as before. plates_read_text makes of it a shape file with the same angles and
+ * right bends; one that plates_write_shape wrote for this list, byte for byte.
+ * 66,962 bytes are always enough.
+ *
+ * 1 to 15, 17 to 23, 25, 29: as in plates_check_shape. Then 31: some strip
+ * bends both ways; never in a file of plates_write_shape. Then 16: out_len is
+ * less than the length of the text. On a refusal `out` is unchanged and *long_
+ * is 0. */
+uint8_t plates_write_text(const uint8_t *list, size_t list_len,
+                          const uint8_t *shape, size_t shape_len,
+                          uint8_t *out, size_t out_len, size_t *long_);
+
+/* Writes the shape file that a text of faces gives to the front of `out`, with
+ * the revision and the remark of the plate list.
+ *
+ * 0: the first *long_ bytes of `out` are the shape file and the bytes behind
+ * them are as before; *bends is its total bends. It is sound and bends no strip
+ * both ways, and plates_write_text makes the same text of it. *long_ is
+ * 16 + 4 * strips, plus 3 and the remark's length if there is one; 611 bytes
+ * are always enough.
+ *
+ * 1 to 15, 23, 29: the plate list is refused. Then 30: some line is not of the
+ * form above, or has a word of over 255 digits; a dart may be any number of
+ * digits long. Then 31: some word has both digits. Then 32: the darts, line by
+ * line, are not those of the plate's faces in their sequence and from their
+ * starts, or the words of a strip's two darts are not each other's reversed
+ * with 0 and 1 exchanged; so is a text of no bytes. Then 20, 21 and 25 as in
+ * plates_check_shape. Then 16: out_len is less than the length of the file. On
+ * a refusal `out` is unchanged; *long_ and *bends are 0. */
+uint8_t plates_read_text(const uint8_t *list, size_t list_len,
+                         const uint8_t *text, size_t text_len,
+                         uint8_t *out, size_t out_len,
+                         uint32_t *long_, uint32_t *bends);
 
 /* Writes an older plate list or shape file, whose fields may stand in any
  * order, to the front of `out` with its fields in tag order. A first byte of

@@ -1,12 +1,14 @@
 //! Strip plates: from a plate list to the shape with fewest bends.
 //!
-//! A safe wrapper round the five functions of the verified library. A plate
+//! A safe wrapper round the seven functions of the verified library. A plate
 //! list is bytes in fields: one-byte tag, two-byte length (high byte first),
 //! content. [`write_shape`] writes the best shape of a plate list,
 //! [`check_shape`] gives a verdict on a shape file, and [`write_listing`]
-//! writes the best shape as text. [`order_fields`] puts the fields of an older
-//! file in tag order. [`current_revision`] finds the current revision of a
-//! model in a book of entries.
+//! writes the best shape as text. [`write_text`] turns a shape file into its
+//! text of faces, and [`read_text`] turns such a text back into a shape file.
+//! [`order_fields`] puts the fields of an older file in tag order.
+//! [`current_revision`] finds the current revision of a model in a book of
+//! entries.
 //!
 //! ```
 //! // Two posts joined by two strips.
@@ -43,6 +45,11 @@ use std::fmt;
 /// Lent memory of this length is enough for the shape of every plate list:
 /// 16 bytes, 4 for each of 128 strips, and a remark of 80 bytes with its 3.
 pub const LONGEST_SHAPE: usize = 16 + 4 * 128 + 3 + 80;
+
+/// Lent memory of this length is enough for the text of every shape file: the
+/// digits of the numbers 0 to 255, and for each of these darts a word of 255
+/// digits, an angle and three spaces, or two and a line feed.
+pub const LONGEST_TEXT: usize = 10 + 2 * 90 + 3 * 156 + 256 * (255 + 4);
 
 /// A shape that was written.
 #[derive(Clone, Copy, Debug, PartialEq, Eq)]
@@ -206,6 +213,134 @@ pub fn write_listing(list: &[u8], out: &mut [u8]) -> Result<usize, Refusal> {
     written_by(calls::plates_write_listing, list, out)
 }
 
+/// Writes the text of faces of a sound shape file to the front of `out`, and
+/// gives its length, at most [`LONGEST_TEXT`].
+///
+/// The text has a line for each face, the outer one first and the others by
+/// their smallest dart. A line starts at the smallest dart of its face and goes
+/// round the face, with a triple for each dart: the dart's number, its bend
+/// word and its angle. A bend word has a digit for each bend along the dart, 0
+/// for right and 1 for left, and is - where there is none. One space stands
+/// between two items, and each line ends with a line feed. The bytes of `out`
+/// behind the text stay as they are.
+///
+/// [`read_text`] makes of the text a shape file with the same angles and right
+/// bends; one that [`write_shape`] wrote for this list, byte for byte.
+///
+/// # Errors
+/// The refusals of [`check_shape`], then [`Refusal::MixedWord`] where some
+/// strip bends both ways, never in a file of [`write_shape`], then
+/// [`Refusal::MemoryShort`] where `out` is shorter than the text. On a refusal
+/// `out` is unchanged.
+///
+/// ```
+/// use plates::{write_text, Refusal};
+///
+/// let list = [
+///     0x01, 0, 2, 0, 7, 0x02, 0, 1, 2, 0x03, 0, 4, 0, 1, 0, 1, //
+///     0x04, 0, 4, 0, 2, 1, 3, 0x05, 0, 1, 1,
+/// ];
+/// let mut shape = [
+///     0x11, 0, 2, 0, 7, 0x12, 0, 2, 0, 2, //
+///     0x13, 0, 4, 1, 3, 3, 1, 0x14, 0, 4, 0, 0, 0, 2,
+/// ];
+/// let mut out = [b'.'; 28];
+/// assert_eq!(write_text(&list, &shape, &mut out[..25]), Err(Refusal::MemoryShort));
+/// assert_eq!(out, [b'.'; 28]);
+/// assert_eq!(write_text(&list, &shape, &mut out), Ok(26));
+/// assert_eq!(out, *b"1 - 3 2 11 3\n0 - 1 3 00 1\n..");
+///
+/// // A right and a left bend on strip 0 as well.
+/// (shape[9], shape[20], shape[21]) = (4, 1, 1);
+/// assert_eq!(write_text(&list, &shape, &mut out), Err(Refusal::MixedWord));
+/// ```
+pub fn write_text(list: &[u8], shape: &[u8], out: &mut [u8]) -> Result<usize, Refusal> {
+    let mut length = 0;
+    // SAFETY: each pointer comes from a reference or a slice, with the slice's
+    // own length, and `out` and the length overlap nothing.
+    let number = unsafe {
+        calls::plates_write_text(
+            list.as_ptr(),
+            list.len(),
+            shape.as_ptr(),
+            shape.len(),
+            out.as_mut_ptr(),
+            out.len(),
+            &mut length,
+        )
+    };
+    accepted(number).map(|()| length)
+}
+
+/// Writes the shape file that a text of faces gives to the front of `out`, with
+/// the revision and the remark of the plate list.
+///
+/// The shape file is sound and bends no strip both ways, and [`write_text`]
+/// makes the same text of it. Its length is 16 + 4 · strips, plus 3 and the
+/// remark's length where there is a remark. The bytes of `out` behind it stay
+/// as they are.
+///
+/// # Errors
+/// Refusals 1 to 15, 23 and 29 for the plate list; then, each over the whole
+/// text, [`Refusal::TextForm`], [`Refusal::MixedWord`] and
+/// [`Refusal::TextFaces`], the last one also for a text of no bytes; then
+/// [`Refusal::AnglesAtPost`], [`Refusal::TurnsOfFace`] and
+/// [`Refusal::LimitPassed`] as in [`check_shape`]; then
+/// [`Refusal::MemoryShort`] where `out` is shorter than the shape file. On a
+/// refusal `out` is unchanged.
+///
+/// ```
+/// use plates::{read_text, Refusal, Shape};
+///
+/// let list = [
+///     0x01, 0, 2, 0, 7, 0x02, 0, 1, 2, 0x03, 0, 4, 0, 1, 0, 1, //
+///     0x04, 0, 4, 0, 2, 1, 3, 0x05, 0, 1, 1,
+/// ];
+/// let mut out = [0xee; plates::LONGEST_SHAPE];
+/// for (text, refusal) in [
+///     (&b"1 - 3 2 11 3\n0 - 1 3 00 1"[..], Refusal::TextForm), // no line feed
+///     (b"1 - 3 2 11 3\n0 - 1 3 01 1\n", Refusal::MixedWord),
+///     (b"0 - 1 3 00 1\n1 - 3 2 11 3\n", Refusal::TextFaces), // the outer face last
+///     (b"1 - 3 2 11 3\n0 - 1 3 11 1\n", Refusal::TextFaces), // left from both sides
+///     (b"1 - 3 2 11 3\n0 - 2 3 00 1\n", Refusal::AnglesAtPost),
+///     (b"1 - 3 2 00 3\n0 - 1 3 11 1\n", Refusal::TurnsOfFace),
+/// ] {
+///     assert_eq!(read_text(&list, text, &mut out), Err(refusal));
+///     assert_eq!(out, [0xee; plates::LONGEST_SHAPE]);
+/// }
+///
+/// let text = b"1 - 3 2 11 3\n0 - 1 3 00 1\n";
+/// let shape = Shape { length: 24, bends: 2 };
+/// assert_eq!(read_text(&list, text, &mut out), Ok(shape));
+/// assert_eq!(
+///     out[..24],
+///     [
+///         0x11, 0, 2, 0, 7, 0x12, 0, 2, 0, 2, //
+///         0x13, 0, 4, 1, 3, 3, 1, 0x14, 0, 4, 0, 0, 0, 2,
+///     ]
+/// );
+/// ```
+pub fn read_text(list: &[u8], text: &[u8], out: &mut [u8]) -> Result<Shape, Refusal> {
+    let mut length = 0;
+    let mut bends = 0;
+    // SAFETY: each pointer comes from a reference or a slice, with the slice's
+    // own length, and `out` and the two numbers overlap nothing.
+    let number = unsafe {
+        calls::plates_read_text(
+            list.as_ptr(),
+            list.len(),
+            text.as_ptr(),
+            text.len(),
+            out.as_mut_ptr(),
+            out.len(),
+            &mut length,
+            &mut bends,
+        )
+    };
+    let length = length as usize;
+    accepted(number).map(|()| Shape { length, bends })
+}
+
 /// Writes an older plate list or shape file, whose fields may stand in any
 /// order, to the front of `out` with its fields in tag order, and gives its
 /// length, which is that of `file`.
@@ -330,6 +465,25 @@ mod calls {
             out_len: usize,
             long: &mut usize,
         ) -> u8;
+        pub fn plates_write_text(
+            list: *const u8,
+            list_len: usize,
+            shape: *const u8,
+            shape_len: usize,
+            out: *mut u8,
+            out_len: usize,
+            long: &mut usize,
+        ) -> u8;
+        pub fn plates_read_text(
+            list: *const u8,
+            list_len: usize,
+            text: *const u8,
+            text_len: usize,
+            out: *mut u8,
+            out_len: usize,
+            long: &mut u32,
+            bends: &mut u32,
+        ) -> u8;
         pub fn plates_order_fields(
             file: *const u8,
             file_len: usize,
@@ -346,7 +500,7 @@ mod calls {
     }
 }
 
-/// Why a plate list, a shape file, lent memory or a book was refused.
+/// Why a plate list, a shape file, a text, lent memory or a book was refused.
 #[derive(Clone, Copy, Debug, PartialEq, Eq, Hash)]
 #[repr(u8)]
 pub enum Refusal {
@@ -401,6 +555,14 @@ pub enum Refusal {
     LimitPassed = 25,
     /// A tag is below the previous one.
     TagOrder = 29,
+    /// A line of a text is not of its form, or has a word of over 255 digits.
+    TextForm = 30,
+    /// A word of a text has both digits, or a strip of a shape that is to be
+    /// written as text bends both ways.
+    MixedWord = 31,
+    /// The faces of a text, with their sequence and starts, are not the plate's,
+    /// or its words do not agree across a strip.
+    TextFaces = 32,
     /// The last entry of a book has under six bytes.
     EntryCut = 40,
     /// An entry's revision is 0, or already listed for its model.
@@ -412,7 +574,7 @@ pub enum Refusal {
 
 impl Refusal {
     /// Every refusal, by rising number.
-    pub const ALL: [Refusal; 28] = [
+    pub const ALL: [Refusal; 31] = [
         Refusal::FieldCut,
         Refusal::UnknownTag,
         Refusal::RepeatedTag,
@@ -438,12 +600,15 @@ impl Refusal {
         Refusal::NoShapeWithin,
         Refusal::LimitPassed,
         Refusal::TagOrder,
+        Refusal::TextForm,
+        Refusal::MixedWord,
+        Refusal::TextFaces,
         Refusal::EntryCut,
         Refusal::RevisionListed,
         Refusal::NotCurrent,
     ];
 
-    /// Its number: 1 to 25, never 10, or 29, or 40 to 42.
+    /// Its number: 1 to 25, never 10, or 29 to 32, or 40 to 42.
     pub fn number(self) -> u8 {
         self as u8
     }
@@ -492,6 +657,11 @@ impl Refusal {
             Refusal::NoShapeWithin => "the plate has no shape within the limits of its strips",
             Refusal::LimitPassed => "a strip has more bends than its limit",
             Refusal::TagOrder => "the fields are not in the order of their tags",
+            Refusal::TextForm => "a line is not of the form of a text, or has a word of over 255 digits",
+            Refusal::MixedWord => "a strip bends both ways",
+            Refusal::TextFaces => {
+                "the text does not give the plate's faces in their sequence and from their starts, or its words do not agree across a strip"
+            }
             Refusal::EntryCut => "the book ends in the middle of an entry",
             Refusal::RevisionListed => "an entry's revision is 0 or already listed for its model",
             Refusal::NotCurrent => {
@@ -517,7 +687,7 @@ mod tests {
     fn numbers_and_refusals_agree() {
         for number in 0..=255 {
             let refusal = Refusal::from_number(number);
-            let given = matches!(number, 0..=9 | 11..=25 | 29 | 40..=42);
+            let given = matches!(number, 0..=9 | 11..=25 | 29..=32 | 40..=42);
             assert_eq!(refusal.map_or(0, Refusal::number) == number, given);
         }
     }

@@ -103,3 +103,23 @@ fn c_program_gets_the_file_in_order() {
         16 length 0:\n5 length 0:\n6 length 0:\n";
     assert_eq!(printed_by_c("older"), expected);
 }
+
+/// The text of P1 and back, with the memory just long enough and one byte
+/// short. A list without its last byte is refused with 5, a text without its
+/// last byte with 30, with bends both ways on strip 1 with 31, with its faces
+/// exchanged, and without a byte, with 32. A shape with bends both ways on strip
+/// 0 is refused with 31.
+#[test]
+fn c_program_gets_the_text_and_the_shape() {
+    let text = "to text 0 length 26 changed 26\n1 - 3 2 11 3\n0 - 1 3 00 1\n";
+    let refused = |number| format!("to text {number} length 0 changed 0\n");
+    let file = "11 00 02 00 07 12 00 02 00 02 13 00 04 01 03 03 01 14 00 04 00 00 00 02";
+    let back = format!("back 0 length 24 bends 2: {file} ee ee\n");
+    let memory = ["ee"; 26].join(" ");
+    let not_back = |number| format!("back {number} length 0 bends 0: {memory}\n");
+    let mut expected = [text, text].concat() + &refused(16) + &refused(5);
+    expected += &back.repeat(2);
+    expected.extend([16, 30, 31, 32, 32].map(not_back));
+    expected += &refused(31);
+    assert_eq!(printed_by_c("texts"), expected);
+}
