@@ -657,11 +657,9 @@ impl Refusal {
             Refusal::NoShapeWithin => "the plate has no shape within the limits of its strips",
             Refusal::LimitPassed => "a strip has more bends than its limit",
             Refusal::TagOrder => "the fields are not in the order of their tags",
-            Refusal::TextForm => "a line is not of the form of a text, or has a word of over 255 digits",
+            Refusal::TextForm => "a line is not of the form, or a word has over 255 digits",
             Refusal::MixedWord => "a strip bends both ways",
-            Refusal::TextFaces => {
-                "the text does not give the plate's faces in their sequence and from their starts, or its words do not agree across a strip"
-            }
+            Refusal::TextFaces => "faces are not the plate's, or words do not agree across a strip",
             Refusal::EntryCut => "the book ends in the middle of an entry",
             Refusal::RevisionListed => "an entry's revision is 0 or already listed for its model",
             Refusal::NotCurrent => {
