@@ -1,6 +1,8 @@
 //! Sound files made unsound: bytes changed, files cut, fields exchanged, doubled,
-//! left out, lengthened. A few come out unchanged.
+//! left out, lengthened. A few come out unchanged. And lists with each number.
 
+use crate::files::{list_bytes, with_limits};
+use crate::plate::{by_number, Plate};
 use crate::random::Random;
 
 /// The fields of a sound file, each with its tag and length.
@@ -83,4 +85,36 @@ fn changed_lengths(file: &[u8], visit: &mut dyn FnMut(&[u8])) {
             visit(&damaged.concat());
         }
     }
+}
+
+/// Refused plate lists, by number: one or more for each number of a list.
+pub fn refused_lists() -> Vec<(u8, Vec<u8>)> {
+    let list = |plate: &Plate| list_bytes(plate, 7, None);
+    let strip = by_number(2, &[[0, 1]], 0);
+    let sound = list(&strip);
+    let star: Vec<[usize; 2]> = (1..6).map(|post| [0, post]).collect();
+    let mut twice = strip.clone();
+    twice.order = vec![vec![0], vec![0]];
+    let mut crossed = by_number(2, &[[0, 1]; 3], 1);
+    crossed.order = vec![vec![0, 2, 4], vec![1, 3, 5]];
+    vec![
+        (1, sound[..2].to_vec()),
+        (2, [&sound[..], &[8, 0, 0]].concat()),
+        (3, [&sound[..5], &sound[..]].concat()),
+        (29, [&sound[5..9], &sound[..5], &sound[9..]].concat()),
+        (4, [&sound[..], &[6, 0, 81], &[0; 81]].concat()),
+        (5, sound[..sound.len() - 1].to_vec()),
+        (6, sound[5..].to_vec()),
+        (7, list(&by_number(0, &[[0, 1]], 0))),
+        (7, list(&by_number(65, &[[0, 1]], 0))),
+        (8, list(&by_number(2, &[], 0))),
+        (9, list(&by_number(2, &[[0, 2]], 0))),
+        (11, list(&by_number(6, &star, 0))),
+        (12, list(&twice)),
+        (13, list(&by_number(2, &[[0, 1]], 2))),
+        (14, list(&by_number(3, &[[0, 1]], 0))),
+        (15, list(&crossed)),
+        (23, with_limits(&sound, &[])),
+        (23, with_limits(&sound, &[1, 1])),
+    ]
 }

@@ -31,7 +31,7 @@ fn list_layout(tag: u8, length: usize) -> Option<bool> {
     Some(match tag {
         0x01 => length == 2,
         0x02 | 0x05 => length == 1,
-        0x03 => length % 2 == 0 && length <= 256,
+        0x03 => length & 1 == 0 && length <= 256,
         0x04 => length <= 256,
         0x06 => length <= 80,
         0x07 => length <= 128,
@@ -254,9 +254,9 @@ pub fn shape_of(file: &[u8], best: Solver) -> Result<(Vec<u8>, u32), u8> {
     Ok((shape_bytes(&list, &shape), shape.bends()))
 }
 
-/// The verdict on a shape file: 1 to 15, 23 and 29 for the list, then 1 to 6,
-/// 29, 17 to 22 and 25.
-pub fn verdict_of(file: &[u8], shape_file: &[u8], best: Solver) -> Result<Verdict, u8> {
+/// The list and the shape of a sound shape file: 1 to 15, 23 and 29 for the
+/// list, then 1 to 6, 29, 17 to 22 and 25.
+pub fn read_shape(file: &[u8], shape_file: &[u8]) -> Result<(List, Shape), u8> {
     let list = read_list(file)?;
     let plate = &list.plate;
     let fields = read_fields(shape_file, shape_layout, 0x11..=0x14, Order::Rising)?;
@@ -273,9 +273,15 @@ pub fn verdict_of(file: &[u8], shape_file: &[u8], best: Solver) -> Result<Verdic
     let total = u32::from(u16::from_be_bytes([fields[&0x12][0], fields[&0x12][1]]));
     refuse_if(total != shape.bends(), 22)?;
     refuse_if(!plate.keeps_limits(&shape.rights), 25)?;
-    let ours = best(plate).expect("the shape of the file keeps the limits");
+    Ok((list, shape))
+}
+
+/// The verdict on a shape file, with the numbers of `read_shape`.
+pub fn verdict_of(file: &[u8], shape_file: &[u8], best: Solver) -> Result<Verdict, u8> {
+    let (list, shape) = read_shape(file, shape_file)?;
+    let ours = best(&list.plate).expect("the shape of the file keeps the limits");
     Ok(Verdict {
-        total,
+        total: shape.bends(),
         fewest: ours.bends(),
         ours: shape == ours,
     })

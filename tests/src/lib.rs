@@ -9,6 +9,7 @@
 //! - [`cancelling`]: the best shape of any plate by cancelling cycles.
 //! - [`certificate`]: whether a given shape is the best one, or no shape keeps
 //!   the limits.
+//! - [`small`]: every plate with few strips.
 //! - [`random`]: random plates from a seed.
 //! - [`remembered`]: best shapes found once for many lists of one plate.
 //! - [`damage`]: sound files made unsound.
@@ -28,6 +29,7 @@ pub mod plate;
 pub mod random;
 pub mod remembered;
 pub mod search;
+pub mod small;
 
 /// Whether the longer runs were asked for.
 pub fn long_mode() -> bool {

@@ -27,6 +27,21 @@ pub fn best(plate: &Plate) -> Option<Shape> {
     (0..=search.most_bends()).find_map(|total| search.first_with(total))
 }
 
+/// Calls `visit` with every shape within the limits that has this total, also
+/// where a strip bends both ways.
+pub fn each_shape(plate: &Plate, total: u32, visit: &mut dyn FnMut(&Shape)) {
+    let search = Search::new(plate);
+    search.each_rights(total, &mut Vec::new(), &mut |rights| {
+        for choice in search.choices_meeting(rights) {
+            visit(&Shape {
+                rights: rights.to_vec(),
+                angles: choice.angles.clone(),
+            });
+        }
+        false
+    });
+}
+
 impl Search<'_> {
     fn new(plate: &Plate) -> Search<'_> {
         let faces = plate.faces();
@@ -108,9 +123,7 @@ impl Search<'_> {
     /// The best shape with these right bends that meets H3, if there is one,
     /// and its cornered posts.
     fn first_angles(&self, rights: &[u32]) -> Option<(usize, Shape)> {
-        let due = |face: &Vec<usize>| self.angles_due(face, rights);
-        let due: Vec<i64> = self.faces.iter().map(due).collect();
-        let meeting = self.choices.iter().filter(|choice| choice.sums == due);
+        let meeting = self.choices_meeting(rights);
         let choice = meeting.min_by_key(|choice| choice.cornered)?;
         let shape = Shape {
             rights: rights.to_vec(),
@@ -118,6 +131,14 @@ impl Search<'_> {
         };
         assert!(self.plate.turns_close(&self.faces, &shape), "H3");
         Some((choice.cornered, shape))
+    }
+
+    /// The angles that meet H3 with these right bends.
+    fn choices_meeting(&self, rights: &[u32]) -> impl Iterator<Item = &Angles> {
+        let due = |face: &Vec<usize>| self.angles_due(face, rights);
+        let due: Vec<i64> = self.faces.iter().map(due).collect();
+        let choices = self.choices.iter();
+        choices.filter(move |choice| choice.sums == due)
     }
 
     /// The sum of a face's angles that gives it the turns that it must have.

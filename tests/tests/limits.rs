@@ -4,6 +4,7 @@
 use plates::{check_shape, write_listing, write_shape, Refusal, Verdict};
 use plates_tests::cancelling;
 use plates_tests::compare;
+use plates_tests::damage::refused_lists;
 use plates_tests::files::{list_bytes, read_list, shape_bytes, with_limits};
 use plates_tests::plate::{by_number, Plate, Shape};
 use plates_tests::random::{double_ring, looped_ring, Random};
@@ -157,34 +158,14 @@ fn cut_and_doubled() {
     assert_eq!(compare::ordering(&before_remark), Ok(limited));
 }
 
-/// Lists with each fault of 6 to 15, by number.
-fn faulty_lists() -> Vec<(u8, Vec<u8>)> {
-    let list = |plate: &Plate| list_bytes(plate, 7, None);
-    let strip = by_number(2, &[[0, 1]], 0);
-    let star: Vec<[usize; 2]> = (1..6).map(|post| [0, post]).collect();
-    let mut twice = strip.clone();
-    twice.order = vec![vec![0], vec![0]];
-    let mut crossed = by_number(2, &[[0, 1]; 3], 1);
-    crossed.order = vec![vec![0, 2, 4], vec![1, 3, 5]];
-    vec![
-        (6, list(&strip)[5..].to_vec()),
-        (7, list(&by_number(0, &[[0, 1]], 0))),
-        (7, list(&by_number(65, &[[0, 1]], 0))),
-        (8, list(&by_number(2, &[], 0))),
-        (9, list(&by_number(2, &[[0, 2]], 0))),
-        (11, list(&by_number(6, &star, 0))),
-        (12, list(&twice)),
-        (13, list(&by_number(2, &[[0, 1]], 2))),
-        (14, list(&by_number(3, &[[0, 1]], 0))),
-        (15, list(&crossed)),
-    ]
-}
-
 /// 23 comes after each of 6 to 15, and 24 too.
 #[test]
 fn after_the_numbers_of_the_plate() {
-    for (number, list) in faulty_lists() {
+    for (number, list) in refused_lists() {
         assert_eq!(refused(&list), number);
+        if !(6..=15).contains(&number) {
+            continue;
+        }
         for length in [0, 1, 2, 3, 5, 128] {
             let limited = with_limits(&list, &vec![0; length]);
             assert_eq!(refused(&limited), number);

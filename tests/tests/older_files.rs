@@ -49,7 +49,7 @@ fn each_order(fields: &mut [Vec<u8>], count: usize, visit: &mut dyn FnMut(&[u8])
     }
     for i in 0..count {
         each_order(fields, count - 1, visit);
-        let other = if count % 2 == 0 { i } else { 0 };
+        let other = if count % 2 == 1 { 0 } else { i };
         fields.swap(other, count - 1);
     }
 }
