@@ -2,6 +2,7 @@
 //! panics with the bytes in hexadecimal.
 
 use crate::files::{in_order, listing_of, shape_of, verdict_of, Solver, Verdict};
+use crate::texts::{file_to_text, text_to_file};
 
 /// Bytes as hexadecimal.
 pub fn hex(bytes: &[u8]) -> String {
@@ -28,6 +29,49 @@ fn lengths_to_lend(length: usize) -> Vec<usize> {
     lengths
 }
 
+/// A call that writes to lent memory: what it reads, and what it should write
+/// with how many bends, 0 where it tells none, or its refusal.
+struct Writing<'a> {
+    name: &'a str,
+    reads: &'a [&'a [u8]],
+    expected: Result<(&'a [u8], u32), u8>,
+}
+
+/// What such a call gives: the length of what it wrote, and the bends.
+type Given = Result<(usize, u32), plates::Refusal>;
+
+impl Writing<'_> {
+    /// Compares the call for each of these lengths of lent memory.
+    fn compare(&self, lengths: &[usize], call: &dyn Fn(&mut [u8]) -> Given) {
+        for &lent in lengths {
+            let expected = match self.expected {
+                Ok((bytes, _)) if lent < bytes.len() => Err(16),
+                expected => expected,
+            };
+            let wanted = expected.map(|(bytes, bends)| (bytes.len(), bends));
+            let after = memory_after(lent, expected.map_or(&[], |(bytes, _)| bytes));
+            let mut out = pattern(lent);
+            let given = call(&mut out).map_err(plates::Refusal::number);
+            let reads = || self.reads.iter().map(|bytes| hex(bytes) + "\n");
+            assert!(
+                given == wanted && out == after,
+                "{}: from\n{}lent {lent} bytes\ngiven {given:?}\nwanted {wanted:?}\nmemory {}\nwanted {}",
+                self.name,
+                reads().collect::<String>(),
+                hex(&out),
+                hex(&after),
+            );
+        }
+    }
+
+    /// Compares the call for lengths near that of what it writes, or near
+    /// `most` where it is refused.
+    fn compare_near(&self, most: usize, call: &dyn Fn(&mut [u8]) -> Given) {
+        let length = self.expected.map_or(most, |(bytes, _)| bytes.len());
+        self.compare(&lengths_to_lend(length), call);
+    }
+}
+
 /// Compares shaping for lent memory of several lengths. Gives the number of
 /// the list's refusal, or 0.
 pub fn shaping(list: &[u8], best: Solver) -> u8 {
@@ -42,31 +86,23 @@ pub fn shaping_longer(list: &[u8], best: Solver) -> u8 {
 fn shaping_with(list: &[u8], best: Solver, lengths: fn(usize) -> Vec<usize>) -> u8 {
     let expected = shape_of(list, best);
     let length = expected.as_ref().map_or(40, |(shape, _)| shape.len());
-    for lent in lengths(length) {
-        let one = match &expected {
-            Err(number) => Err(*number),
-            Ok((shape, _)) if lent < shape.len() => Err(16),
-            Ok((shape, bends)) => Ok((&shape[..], *bends)),
-        };
-        shaping_once(list, lent, one);
-    }
+    let writing = Writing {
+        name: "write_shape",
+        reads: &[list],
+        expected: borrowed(&expected),
+    };
+    writing.compare(&lengths(length), &|out| {
+        plates::write_shape(list, out).map(|shape| (shape.length, shape.bends))
+    });
     expected.err().unwrap_or(0)
 }
 
-fn shaping_once(list: &[u8], lent: usize, expected: Result<(&[u8], u32), u8>) {
-    let mut out = pattern(lent);
-    let given = plates::write_shape(list, &mut out);
-    let given = given.map(|shape| (shape.length, shape.bends));
-    let given = given.map_err(plates::Refusal::number);
-    let written = expected.map_or(&[][..], |(shape, _)| shape);
-    let wanted = expected.map(|(shape, bends)| (shape.len(), bends));
-    assert!(
-        given == wanted && out == memory_after(lent, written),
-        "write_shape: list {}\nlent {lent} bytes\ngiven {given:?}\nwanted {wanted:?}\nmemory {}\nwanted {}",
-        hex(list),
-        hex(&out),
-        hex(&memory_after(lent, written)),
-    );
+/// A shape file with its bends, or a refusal.
+fn borrowed(expected: &Result<(Vec<u8>, u32), u8>) -> Result<(&[u8], u32), u8> {
+    match expected {
+        Ok((file, bends)) => Ok((file, *bends)),
+        Err(number) => Err(*number),
+    }
 }
 
 /// Compares the verdict on a shape file. Gives its number, or 0.
@@ -87,44 +123,54 @@ pub fn checking(list: &[u8], shape: &[u8], best: Solver) -> u8 {
     wanted.err().unwrap_or(0)
 }
 
-/// A call that writes what it makes of some bytes to lent memory, and gives its
-/// length.
-type Writing = fn(&[u8], &mut [u8]) -> Result<usize, plates::Refusal>;
-
-/// Compares such a call for lent memory of several lengths.
-fn writing(name: &str, call: Writing, from: &[u8], expected: Result<&[u8], u8>) {
-    let length = expected.map_or(40, <[u8]>::len);
-    for lent in lengths_to_lend(length) {
-        let wanted = expected.and_then(|bytes| if lent < length { Err(16) } else { Ok(bytes) });
-        let after = memory_after(lent, wanted.unwrap_or(&[]));
-        let mut out = pattern(lent);
-        let given = call(from, &mut out).map_err(plates::Refusal::number);
-        assert!(
-            given == wanted.map(<[u8]>::len) && out == after,
-            "{name}: from {}\nlent {lent} bytes\ngiven {given:?}\nwanted {wanted:?}\nmemory {}\nwanted {}",
-            hex(from),
-            hex(&out),
-            hex(&after),
-        );
-    }
-}
-
 /// Compares the listing for lent memory of several lengths.
 pub fn listing(list: &[u8], best: Solver) {
     let text = listing_of(list, best);
-    writing(
-        "write_listing",
-        plates::write_listing,
-        list,
-        Ok(text.as_bytes()),
-    );
+    let writing = Writing {
+        name: "write_listing",
+        reads: &[list],
+        expected: Ok((text.as_bytes(), 0)),
+    };
+    writing.compare_near(40, &|out| Ok((plates::write_listing(list, out)?, 0)));
 }
 
 /// Compares putting an older file in order, for lent memory of several
 /// lengths. Gives the file in order, or its refusal.
 pub fn ordering(file: &[u8]) -> Result<Vec<u8>, u8> {
     let expected = in_order(file);
-    let bytes = expected.as_deref().map_err(|&number| number);
-    writing("order_fields", plates::order_fields, file, bytes);
+    let writing = Writing {
+        name: "order_fields",
+        reads: &[file],
+        expected: expected.as_ref().map(|f| (&f[..], 0)).map_err(|&n| n),
+    };
+    writing.compare_near(40, &|out| Ok((plates::order_fields(file, out)?, 0)));
     expected
+}
+
+/// Compares writing the text of a shape file, for lent memory of several
+/// lengths. Gives the text, or the refusal.
+pub fn to_text(list: &[u8], shape: &[u8]) -> Result<String, u8> {
+    let expected = file_to_text(list, shape);
+    let writing = Writing {
+        name: "write_text",
+        reads: &[list, shape],
+        expected: expected.as_ref().map(|t| (t.as_bytes(), 0)).map_err(|&n| n),
+    };
+    writing.compare_near(2_000, &|out| Ok((plates::write_text(list, shape, out)?, 0)));
+    expected
+}
+
+/// Compares reading a text, for lent memory of several lengths. Gives the shape
+/// file, or the refusal.
+pub fn from_text(list: &[u8], text: &[u8]) -> Result<Vec<u8>, u8> {
+    let expected = text_to_file(list, text);
+    let writing = Writing {
+        name: "read_text",
+        reads: &[list, text],
+        expected: borrowed(&expected),
+    };
+    writing.compare_near(plates::LONGEST_SHAPE, &|out| {
+        plates::read_text(list, text, out).map(|shape| (shape.length, shape.bends))
+    });
+    expected.map(|(file, _)| file)
 }

@@ -4,6 +4,7 @@
 //!
 //! - [`book`]: books of entries by sets of revisions.
 //! - [`files`]: fields, refusals, shape files, verdicts, listings, older files.
+//! - [`texts`]: texts of faces by lines and items.
 //! - [`plate`]: darts, rotation, faces, limits, the conditions H3 and H4.
 //! - [`search`]: the best shape of a small plate by trying every shape.
 //! - [`cancelling`]: the best shape of any plate by cancelling cycles.
@@ -11,9 +12,12 @@
 //!   the limits.
 //! - [`small`]: every plate with few strips.
 //! - [`random`]: random plates from a seed.
+//! - [`near`]: sound shapes near a given one.
 //! - [`remembered`]: best shapes found once for many lists of one plate.
 //! - [`damage`]: sound files made unsound.
+//! - [`text_damage`]: the same for texts.
 //! - [`compare`]: one call of the library against this implementation.
+//! - [`round_trip`]: both conversions of texts, one after the other.
 //!
 //! `cargo test --release` runs the default mode, in seconds; with the variable
 //! PLATES_LONG=1 it runs the long mode, in minutes. `-- --nocapture` prints
@@ -25,11 +29,15 @@ pub mod certificate;
 pub mod compare;
 pub mod damage;
 pub mod files;
+pub mod near;
 pub mod plate;
 pub mod random;
 pub mod remembered;
+pub mod round_trip;
 pub mod search;
 pub mod small;
+pub mod text_damage;
+pub mod texts;
 
 /// Whether the longer runs were asked for.
 pub fn long_mode() -> bool {
