@@ -208,6 +208,18 @@ fn lines_not_of_the_form() {
     }
 }
 
+/// The line of one strip many times, and then without its last line feed.
+#[test]
+fn many_lines() {
+    let list = list_bytes(&p4(), 7, None);
+    for times in [2, 127, 128, 129, 256, 300, 70_000] {
+        let lines = "0 - 4 1 - 4\n".repeat(times);
+        assert_eq!(read(&list, &lines), 32);
+        assert_eq!(read(&list, lines.trim_end()), 30);
+        assert_eq!(read(&list, &(lines + "0 10 4\n")), 31);
+    }
+}
+
 /// Numbers that are no dart of one strip: by powers of two and ten and by
 /// thousands more than a dart, small ones, and very long ones.
 fn numbers_over_darts() -> Vec<String> {
@@ -274,8 +286,8 @@ fn each_short(start: &mut Vec<u8>, more: usize, visit: &mut dyn FnMut(&[u8])) {
     }
 }
 
-/// Every short text against one strip: no line is long enough for it, but many
-/// are of the form.
+/// Every short text against one strip: none is long enough for it, but some are
+/// of the form.
 #[test]
 fn every_short_text() {
     let list = list_bytes(&p4(), 7, None);

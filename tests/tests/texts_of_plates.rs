@@ -91,8 +91,8 @@ fn every_shape(plate: &Plate, bends: u32, within: bool, met: &mut Met) {
 fn every_shape_of_small_plates() {
     for (strips, bends, [share, limited]) in [
         (1, how_many(12, 40), [1, 1]),
-        (2, how_many(6, 8), [1, how_many(12, 1)]),
-        (3, how_many(4, 5), [how_many(53, 1), how_many(61, 211)]),
+        (2, how_many(6, 7), [1, how_many(12, 1)]),
+        (3, 4, [how_many(53, 1), how_many(61, 1_009)]),
     ] {
         let mut met = Met::default();
         let mut plates = 0;
@@ -265,7 +265,7 @@ fn damaged_twice(text: &str, other: &str, random: &mut Random) -> Vec<u8> {
 
 #[test]
 fn random_plates() {
-    let count = how_many(500, 12_000);
+    let count = how_many(500, 10_000);
     let mut met = Met::default();
     let mut other = "0 - 4 1 - 4\n".to_string();
     let (mut most, mut own, mut near) = ([0; 2], 0, 0);
@@ -295,7 +295,7 @@ fn random_plates() {
 #[test]
 fn damaged_lists_and_files() {
     let mut met = Met::default();
-    for seed in 0..how_many(60, 1_500) {
+    for seed in 0..how_many(60, 1_000) {
         let mut random = Random::new(12_000_000 + seed as u64);
         let case = random_case(3 + seed % 5, &mut random);
         let file = shape_bytes(&case.read, &case.shape);
