@@ -9,37 +9,51 @@ fn main() -> ExitCode {
     let arguments: Vec<String> = std::env::args().skip(1).collect();
     if let [call, count, names @ ..] = arguments.as_slice() {
         if let Ok(count) = count.parse() {
-            return repeat(call == "check", count, names);
+            return repeat(call, count, names);
         }
     }
-    eprintln!("usage: profile write|check CALLS PLATE...");
+    eprintln!("usage: profile write|check|to_text|from_text CALLS PLATE...");
     ExitCode::FAILURE
 }
 
-fn repeat(check: bool, count: u32, names: &[String]) -> ExitCode {
+fn repeat(call: &str, count: u32, names: &[String]) -> ExitCode {
     for name in names {
         let Some(named) = by_name(name) else {
             eprintln!("there is no plate {name}");
             return ExitCode::FAILURE;
         };
-        let file = if check {
-            written(&named.list).0
-        } else {
-            Vec::new()
-        };
+        let input = input_of(call, &named.list);
         for _ in 0..count {
-            call(check, &named.list, &file);
+            call_once(call, &named.list, &input);
         }
     }
     ExitCode::SUCCESS
 }
 
-fn call(check: bool, list: &[u8], file: &[u8]) {
-    if check {
-        let _ = black_box(plates::check_shape(black_box(list), black_box(file)));
-    } else {
-        let mut out = [0; plates::LONGEST_SHAPE];
-        let _ = black_box(plates::write_shape(black_box(list), &mut out));
-        black_box(&out);
+/// What a call takes beside the list: the shape file, or its text.
+fn input_of(call: &str, list: &[u8]) -> Vec<u8> {
+    if call == "write" {
+        return Vec::new();
     }
+    let file = written(list).0;
+    if call != "from_text" {
+        return file;
+    }
+    let mut text = vec![0; plates::LONGEST_TEXT];
+    let length = plates::write_text(list, &file, &mut text).expect("our own file has a text");
+    text.truncate(length);
+    text
+}
+
+fn call_once(call: &str, list: &[u8], input: &[u8]) {
+    let (list, input) = (black_box(list), black_box(input));
+    let mut shape = [0; plates::LONGEST_SHAPE];
+    let mut text = vec![0; plates::LONGEST_TEXT];
+    match call {
+        "check" => drop(black_box(plates::check_shape(list, input))),
+        "to_text" => drop(black_box(plates::write_text(list, input, &mut text))),
+        "from_text" => drop(black_box(plates::read_text(list, input, &mut shape))),
+        _ => drop(black_box(plates::write_shape(list, &mut shape))),
+    }
+    black_box((&shape, &text));
 }
