@@ -11,7 +11,6 @@ use Rattle.fields.specs.declared.Fields.{Fields}
 use Rattle.embedding.specs.Read.{Stands}
 use Rattle.embedding.specs.declared.Plate.{Plate as Held}
 use Rattle.shapes.specs.Claims.{Accepted, Standing}
-use Rattle.shapes.specs.Judge.{judgement}
 use Rattle.flow.specs.Network.{Either}
 use Rattle.shapes.specs.Rates.{rates, BestBy, NoShape}
 use Rattle.shapes.specs.BestOf.{ShapeHeld as Shaped, Blank, Answers}
@@ -23,14 +22,15 @@ use Rattle.shapes.proofs.Results.{found-if}
 use Rattle.shapes.proofs.Unpriced.{within-by}
 use Rattle.plates.specs.declared.reading.ListRead.{ListRead}
 use Rattle.plates.specs.Plates.{pickT, Plate, darts}
-use Rattle.plates.specs.Shapes.{total, rightsOf, pairSums, allWithin, shapeOf}
-use Rattle.plates.specs.Claims.{BestOf, SomeWithin, NoneWithin}
+use Rattle.plates.specs.Shapes.{total, rightsOf, shapeOf}
+use Rattle.plates.specs.Claims.{BestOf, NoneWithin}
 use Rattle.plates.specs.Files.{listFault, plateOf, limitsOf}
-use Rattle.plates.specs.Says.{anglesIn, rightsIn}
+use Rattle.plates.specs.Says.{rightsIn, checkFault}
 use Rattle.plates.specs.Read.{ListHeld, ListRefused, ReadsList, ShapeHeld, ReadsShape, Readable, shapeFileFault}
 use Rattle.plates.specs.Encodes.{BestGiven}
-use Rattle.plates.specs.Checks.{BestCounts, Judged}
+use Rattle.plates.specs.Checks.{Compared}
 use Rattle.fields.specs.Says.{refusedBy}
+use Rattle.plates.proofs.Sound.{sound-within}
 
 -- a list without refusal
 module _ {s : List ℕ} {rd : ListRead} (h : ReadsList s rd) (z : rd .number ≡ 0) where
@@ -130,15 +130,12 @@ module _ {s : List ℕ} {f : Fields} {q : Held} {t : List ℕ} {g : Fields} (r :
       let long : length x ≡ darts (plateOf s) = ap length e ∙ r .rights-many ∙ r .plate .dart-count in
       (ap (λ (n : ℕ). n % 2) long ∙ r .accepted .even-darts, omega (arith, darts-few (plateOf s) (faultless (plateOf s) (r .accepted)) (ordered (plateOf s) (r .accepted))))
 
-  -- the number judged, whether the limits are kept, and the best shape if there is one
-  pub judged-by : (b : BestAnswer) {n : ℕ} {w : Bool} → n ≡ judgement (plateOf s) (anglesIn t) (rightsIn t) → w ≡ allWithin (limitsOf s) (pairSums (rightsIn t))
-      → Answers (plateOf s) (rates (limitsOf s) []) b → Judged s t n w (take (q .darts) (b .shape .angles)) (take (q .darts) (b .shape .rights)) (b .shape .total)
-  judged-by b {n} {w} j l h = record { no-fault = r .no-fault; no-file-fault = r .no-file-fault; number = j; limits = l; best = best }
-    where
-      best : SomeWithin s → BestCounts s (take (q .darts) (b .shape .angles)) (take (q .darts) (b .shape .rights)) (b .shape .total)
-      best (u, m, k) =
-          let x = found-if (plateOf s) (rates (limitsOf s) []) b h u m k .1 in
-          record { best = best-of s (b .shape) (r .plate) x; counts = counts-of s (b .shape) (r .plate) x; sum = sum-of s (b .shape) (r .plate) x }
+  -- a sound file, and the best shape, which there is since the file is a shape within the limits
+  pub compared : (b : BestAnswer) → checkFault s t ≡ 0 → Answers (plateOf s) (rates (limitsOf s) []) b → Compared s t (take (q .darts) (b .shape .angles)) (take (q .darts) (b .shape .rights)) (b .shape .total)
+  compared b sound h =
+      let (u, m, k) = sound-within s t sound in
+      let x = found-if (plateOf s) (rates (limitsOf s) []) b h u m k .1 in
+      record { sound = sound; best = record { best = best-of s (b .shape) (r .plate) x; counts = counts-of s (b .shape) (r .plate) x; sum = sum-of s (b .shape) (r .plate) x } }
 
 -- the counts of the answer, lent as parts of their arrays
 module _ {q : Held} (ls : List ℕ) (b : BestAnswer) (s : Standing q) (f : (p : Plate) → Stands q p → Accepted p → Answers p (rates ls []) b) where

@@ -6,22 +6,20 @@ use Prim.Native.Nat.{ℕ, zero, suc, _≤_}
 use native.Mathlib.Omega.{arith}
 use lib.Dec.{eqb, lit<}
 use lib.ListN.{length}
-use borrow.Author.Tests.{eqb-true, eqb-false, eq-eqb, ne-eqb, leb-true}
+use borrow.Author.Tests.{eq-eqb, ne-eqb, leb-true}
 use Rattle.finite.proofs.Tests.{and-right, first-some, first-assoc}
 use Rattle.fields.specs.Says.{bytesOf}
 use Rattle.fields.specs.declared.Fields.{Fields}
-use Rattle.plates.specs.declared.Verdict.{Verdict}
-use Rattle.plates.specs.Plates.{firstOf, when, pick, darts, faces}
+use Rattle.plates.specs.Plates.{firstOf, when, darts, faces}
 use Rattle.plates.specs.Shapes.{total, same, anglesOk, postsOk, facesOk, pairSums, allWithin, shapeOf}
 use Rattle.plates.specs.Files.{Field, hasTag, contentOf, walkAll, listFault, plateOf, limitsOf}
 use Rattle.plates.specs.Says.{word, anglesIn, rightsIn, checkFault, CheckWith, CheckSays}
 use Rattle.plates.specs.Read.{WalkedFile, shapeFileFault}
 use Rattle.shapes.specs.Judge.{judgement}
-use Rattle.plates.specs.Checks.{refusedVerdict, verdictOf, Judged}
+use Rattle.plates.specs.Checks.{refusedVerdict, Compared}
 use Rattle.fields.proofs.Laid.{all-laid}
 use Rattle.fields.proofs.Runs.{all-there}
 use Rattle.plates.proofs.HeldLists.{walked-content}
-use Rattle.plates.proofs.Sound.{sound-within}
 
 -- places in turn: the list, the shape file, the verdict
 module _ (s t : List ℕ) where
@@ -34,7 +32,7 @@ module _ (s t : List ℕ) where
   abbrev last : ℕ
   last = firstOf (when (not (eqb said (total (rightsIn t)))) 22) (when (not kept) 25)
 
-  abbrev judged-then : ℕ
+  abbrev pub judged-then : ℕ
   judged-then = firstOf (judgement (plateOf s) (anglesIn t) (rightsIn t)) last
 
   pub places : checkFault s t ≡ firstOf (listFault s) (firstOf (shapeFileFault s t) judged-then)
@@ -61,6 +59,9 @@ module _ (s t : List ℕ) where
   refused-check : (e : ℕ) → checkFault s t ≡ e → (e ≡ 0 → ⊥) → CheckSays s t (refusedVerdict e)
   refused-check e q n = subst (λ (k : ℕ). CheckWith k s t (refusedVerdict e)) (sym q) (refused-with e n)
 
+  pub counts-refused-check : (e : ℕ) → e ≡ checkFault s t → (e ≡ 0 → ⊥) → CheckSays s t (refusedVerdict e)
+  counts-refused-check e q n = refused-check e (sym q) n
+
   pub list-refused-check : (e : ℕ) → e ≡ listFault s → (e ≡ 0 → ⊥) → CheckSays s t (refusedVerdict e)
   list-refused-check e q n = refused-check e (places ∙ first-some (listFault s) _ (λ z. n (q ∙ z)) ∙ sym q) n
 
@@ -74,40 +75,28 @@ module _ (s t : List ℕ) where
       later = places ∙ ap (λ (k : ℕ). firstOf k (firstOf (shapeFileFault s t) judged-then)) none ∙ ap (λ (k : ℕ). firstOf k judged-then) sound-file
 
       -- judged, then 22, then 25, then sound
-      module _ {judged fewest : ℕ} {within : Bool} {a x : List ℕ} (h : Judged s t judged within a x fewest) (ours : Bool) (same-counts : ours ≡ (same a (anglesIn t) && same x (rightsIn t))) where
-        true-total : judged ≡ 0 → said ≡ total (rightsIn t) → checkFault s t ≡ when (not within) 25
-        true-total j q =
-            later ∙ ap (λ (k : ℕ). firstOf k last) (sym (h .number) ∙ j)
-            ∙ ap (λ (b : Bool). firstOf (when (not b) 22) (when (not kept) 25)) (eq-eqb said (total (rightsIn t)) q) ∙ ap (λ (b : Bool). when (not b) 25) (sym (h .limits))
+      module _ {j : ℕ} (e : j ≡ judgement (plateOf s) (anglesIn t) (rightsIn t)) where
+        pub judged-fault : (j ≡ 0 → ⊥) → j ≡ checkFault s t
+        judged-fault n = e ∙ sym (later ∙ first-some (judgement (plateOf s) (anglesIn t) (rightsIn t)) last (λ z. n (e ∙ z)))
 
-        sound-check : judged ≡ 0 → said ≡ total (rightsIn t) → within ≡ true → CheckSays s t (record { number = 0; total = total (rightsIn t); fewest = fewest; ours = ours })
-        sound-check j q l =
-            let good : checkFault s t ≡ 0 = true-total j q ∙ ap (λ (b : Bool). when (not b) 25) l in
-            let g = h .best (sound-within s t good) in
-            let v : Verdict = record { number = 0; total = total (rightsIn t); fewest = fewest; ours = ours } in
-            subst (λ (k : ℕ). CheckWith k s t v) (sym good) (refl, refl, (a, x, g .best, g .counts, (g .sum, same-counts)))
+        module _ (z : j ≡ 0) {n k : ℕ} (n-is : n ≡ said) (k-is : k ≡ total (rightsIn t)) where
+          after-judge : checkFault s t ≡ last
+          after-judge = later ∙ ap (λ (i : ℕ). firstOf i last) (sym e ∙ z)
 
-        limit-passed : judged ≡ 0 → said ≡ total (rightsIn t) → within ≡ false → CheckSays s t (refusedVerdict 25)
-        limit-passed j q l = refused-check 25 (true-total j q ∙ ap (λ (b : Bool). when (not b) 25) l) (λ z. omega (arith, z))
+          pub total-fault : (n ≡ k → ⊥) → 22 ≡ checkFault s t
+          total-fault m = sym (after-judge ∙ ap (λ (b : Bool). firstOf (when (not b) 22) (when (not kept) 25)) (ne-eqb said (total (rightsIn t)) (λ y. m (n-is ∙ y ∙ sym k-is))))
 
-        wrong-total : judged ≡ 0 → (said ≡ total (rightsIn t) → ⊥) → CheckSays s t (refusedVerdict 22)
-        wrong-total j n =
-            refused-check 22 (
-            later ∙ ap (λ (k : ℕ). firstOf k last) (sym (h .number) ∙ j) ∙ ap (λ (b : Bool). firstOf (when (not b) 22) (when (not kept) 25)) (ne-eqb said (total (rightsIn t)) n)
-            ) (λ z. omega (arith, z))
+          module _ (y : n ≡ k) {w : Bool} (w-is : w ≡ kept) where
+            after-total : checkFault s t ≡ when (not w) 25
+            after-total =
+                after-judge ∙ ap (λ (b : Bool). firstOf (when (not b) 22) (when (not kept) 25)) (eq-eqb said (total (rightsIn t)) (sym n-is ∙ y ∙ k-is))
+                ∙ ap (λ (b : Bool). when (not b) 25) (sym w-is)
 
-        judged-wrong : (judged ≡ 0 → ⊥) → CheckSays s t (refusedVerdict judged)
-        judged-wrong n = refused-check judged (later ∙ ap (λ (k : ℕ). firstOf k last) (sym (h .number)) ∙ first-some judged last n) n
+            pub limit-fault : w ≡ false → 25 ≡ checkFault s t
+            limit-fault f = sym (after-total ∙ ap (λ (b : Bool). when (not b) 25) f)
 
-        pub verdict-says : CheckSays s t (verdictOf judged said (total (rightsIn t)) within fewest ours)
-        verdict-says = go (eqb judged 0) refl (eqb said (total (rightsIn t))) refl within refl
-          where
-            go : (b : Bool) → eqb judged 0 ≡ b → (c : Bool) → eqb said (total (rightsIn t)) ≡ c → (d : Bool) → within ≡ d
-                → CheckSays s t (pick b (pick c (pick d (record { number = 0; total = total (rightsIn t); fewest = fewest; ours = ours }) (refusedVerdict 25)) (refusedVerdict 22)) (refusedVerdict judged))
-            go true e true q true l = sound-check (eqb-true judged 0 e) (eqb-true said (total (rightsIn t)) q) l
-            go true e true q false l = limit-passed (eqb-true judged 0 e) (eqb-true said (total (rightsIn t)) q) l
-            go true e false q d l = wrong-total (eqb-true judged 0 e) (eqb-false said (total (rightsIn t)) q)
-            go false e c q d l = judged-wrong (eqb-false judged 0 e)
+            pub no-counts-fault : w ≡ true → 0 ≡ checkFault s t
+            no-counts-fault f = sym (after-total ∙ ap (λ (b : Bool). when (not b) 25) f)
 
 -- the same from slots
 module _ {t : List ℕ} {g : Fields} (w : WalkedFile true t g) where
@@ -124,16 +113,13 @@ module _ {t : List ℕ} {g : Fields} (w : WalkedFile true t g) where
   pub rights-few : (r : List ℕ) → r ≡ bytesOf t g 3 → length r ≤ 256
   rights-few r e = omega (arith, ap length (e ∙ walked-content w 3 (lit< tt)), leb-true (length (contentOf 20 us)) 256 (all-laid true true t 20 there-20))
 
-  pub verdict-read : (judged fewest : ℕ) (within : Bool) (a x b r : List ℕ) (n k : ℕ) (v : Verdict) (i j ij : Bool) → b ≡ bytesOf t g 2 → r ≡ bytesOf t g 3 → n ≡ word (bytesOf t g 1) → k ≡ total r
-      → i ≡ same a b → j ≡ same x r → ij ≡ (i && j) → v ≡ verdictOf judged n k within fewest ij → (s : List ℕ) → Judged s t judged within a x fewest → CheckSays s t v
-  verdict-read judged fewest within a x b r n k v i j ij angles rights said-is counted i-is j-is ij-is v-is s h =
+  pub verdict-read : (fewest : ℕ) (a x b r : List ℕ) (k : ℕ) (i j ij : Bool) → b ≡ bytesOf t g 2 → r ≡ bytesOf t g 3 → k ≡ total r
+      → i ≡ same a b → j ≡ same x r → ij ≡ (i && j) → (s : List ℕ) → Compared s t a x fewest → CheckSays s t (record { number = 0; total = k; fewest = fewest; ours = ij })
+  verdict-read fewest a x b r k i j ij angles rights counted i-is j-is ij-is s h =
       let angles-are : b ≡ anglesIn t = angles ∙ walked-content w 2 (lit< tt) in
       let rights-are : r ≡ rightsIn t = rights ∙ walked-content w 3 (lit< tt) in
-      let n-is : n ≡ said s t = said-is ∙ ap word (walked-content w 1 (lit< tt)) in
-      let k-is : k ≡ total (rightsIn t) = counted ∙ ap total rights-are in
       let i-same : i ≡ same a (anglesIn t) = i-is ∙ ap (same a) angles-are in
       let j-same : j ≡ same x (rightsIn t) = j-is ∙ ap (same x) rights-are in
-      let both : ij ≡ (same a (anglesIn t) && same x (rightsIn t)) = ij-is ∙ ap (λ (c : Bool). c && j) i-same ∙ ap (λ (c : Bool). same a (anglesIn t) && c) j-same in
-      let v-are : v ≡ verdictOf judged (said s t) (total (rightsIn t)) within fewest ij =
-      v-is ∙ ap (λ (m : ℕ). verdictOf judged m k within fewest ij) n-is ∙ ap (λ (m : ℕ). verdictOf judged (said s t) m within fewest ij) k-is in
-      subst (λ (u : Verdict). CheckSays s t u) (sym v-are) (verdict-says s t (h .no-fault) (h .no-file-fault) h ij both)
+      let both : ij ≡ (same a (anglesIn t) && same x (rightsIn t)) = ij-is ∙ (λ n. i-same n && j-same n) in
+      subst (λ (n : ℕ). CheckWith n s t (record { number = 0; total = k; fewest = fewest; ours = ij })) (sym (h .sound))
+      (refl, counted ∙ ap total rights-are, (a, x, h .best .best, h .best .counts, (h .best .sum, both)))

@@ -20,6 +20,7 @@ pub mod Shaping
 pub mod CheckLaws
 pub mod ShapeReads
 pub mod CheckSound
+pub mod CheckCounts
 pub mod ListingSaid
 pub mod P1
 pub mod Calls

@@ -5,13 +5,16 @@ ghost use mathlib.Core.List.{List};
 ghost use Prim.Native.Nat.{ℕ, _≤_};
 ghost use lib.ListN.{length};
 ghost use Rattle.plates.specs.Shapes.{total, same};
-ghost use Rattle.plates.specs.Says.{CheckSays};
-ghost use Rattle.plates.specs.Read.{WalkedFile};
-ghost use Rattle.plates.specs.Checks.{refusedVerdict, verdictOf, Judged};
+ghost use Rattle.plates.specs.Says.{checkFault, CheckSays};
+ghost use Rattle.plates.specs.Read.{WalkedFile, Readable};
+ghost use Rattle.plates.specs.Checks.{refusedVerdict, Compared};
 use crate::Verdict;
+use embedding::Plate;
 use fields::Fields;
 use fields::content;
 use fields::number_of;
+use shapes::judge::judge;
+use shapes::rates::limits_ok;
 
 // The sum of the right bends.
 pub fn total_of(rights: &[u8]) -> u32
@@ -65,52 +68,43 @@ pub fn refused_verdict(number: u8) -> Verdict
     }
 }
 
-// 19 to 21 as judged, then 22, then 25, then a sound verdict.
-fn verdict(judged: u8, said: usize, counted: u32, within: bool, fewest: u32, ours: bool) -> Verdict
-    ensures { λ r. ⌜ r ≡ verdictOf judged said counted within fewest ours ⌝ }
+// The check's number of a shape file that has an angle and right bends for each dart of the plate: 19 to 22, 25, or 0.
+pub fn counts_fault(list: &[u8], f: Fields, plate: Plate, shape: &[u8], g: Fields) -> u8
+    requires { ⌜ Readable (now list) f plate (now shape) g ⌝ }
+    ensures { λ r. ⌜ r ≡ checkFault (now (list .entry)) (now (shape .entry)) ⌝ }
 {
+    let angles = content(shape, g, 2);
+    let rights = content(shape, g, 3);
+    let judged = judge(plate, angles, rights);
     if judged != 0 {
-        return refused_verdict(judged);
+        return judged;
     }
-    if said != counted as usize {
-        return refused_verdict(22);
+    let said = number_of(shape, g, 1);
+    let counted = total_of(rights) as usize;
+    if said != counted {
+        return 22;
     }
-    if !within {
-        return refused_verdict(25);
+    let limits = content(list, f, 6);
+    if !limits_ok(limits, rights) {
+        return 25;
     }
-    Verdict {
-        number: 0,
-        total: counted,
-        fewest,
-        ours,
-    }
+    0
 }
 
-// The verdict on a shape file, from the number judged, whether it keeps the limits, and the best shape's angles, right bends and total.
-pub fn check_read(
-    shape: &[u8],
-    g: Fields,
-    judged: u8,
-    within: bool,
-    angles: &[u8],
-    rights: &[u8],
-    fewest: u32,
-) -> Verdict
+// The verdict on a sound shape file, from the best shape's angles, right bends and total.
+pub fn sound_verdict(shape: &[u8], g: Fields, angles: &[u8], rights: &[u8], fewest: u32) -> Verdict
     requires { ⌜ WalkedFile true (now shape) g ⌝ }
-    ensures { λ r. ⌜ ((s : List ℕ) → Judged s (now (shape .entry)) judged within (now (angles .entry)) (now (rights .entry)) fewest → CheckSays s (now (shape .entry)) r) ⌝ }
+    ensures { λ r. ⌜ ((s : List ℕ) → Compared s (now (shape .entry)) (now (angles .entry)) (now (rights .entry)) fewest → CheckSays s (now (shape .entry)) r) ⌝ }
 {
     let their_angles = content(shape, g, 2);
     let their_rights = content(shape, g, 3);
-    let said = number_of(shape, g, 1);
-    let counted = total_of(their_rights);
+    let total = total_of(their_rights);
     let is_angles = is_same(angles, their_angles);
     let is_rights = is_same(rights, their_rights);
-    verdict(
-        judged,
-        said,
-        counted,
-        within,
+    Verdict {
+        number: 0,
+        total,
         fewest,
-        both(is_angles, is_rights),
-    )
+        ours: both(is_angles, is_rights),
+    }
 }

@@ -9,8 +9,9 @@ ghost use Rattle.plates.specs.Files.{limitsOf};
 ghost use Rattle.plates.specs.Says.{ShapeSays, CheckSays};
 ghost use Rattle.plates.specs.Read.{Walked, Readable};
 ghost use Rattle.plates.specs.Listing.{ListingSays};
-use crate::checking::check_read;
+use crate::checking::counts_fault;
 use crate::checking::refused_verdict;
+use crate::checking::sound_verdict;
 use crate::encoding::refused_shape;
 use crate::encoding::write_best;
 use crate::listing::list_best;
@@ -22,8 +23,6 @@ use fields::Fields;
 use fields::content;
 use shapes::best::BestAnswer;
 use shapes::best::best_by;
-use shapes::judge::judge;
-use shapes::rates::limits_ok;
 
 pub mod checking;
 pub mod encoding;
@@ -93,25 +92,16 @@ fn check_counts(list: &[u8], f: Fields, plate: Plate, shape: &[u8], g: Fields) -
     requires { ⌜ Readable (now list) f plate (now shape) g ⌝ }
     ensures { λ r. ⌜ CheckSays (now (list .entry)) (now (shape .entry)) r ⌝ }
 {
-    let their_angles = content(shape, g, 2);
-    let their_rights = content(shape, g, 3);
-    let judged = judge(plate, their_angles, their_rights);
-    let limits = content(list, f, 6);
-    let within = limits_ok(limits, their_rights);
+    let number = counts_fault(list, f, plate, shape, g);
+    if number != 0 {
+        return refused_verdict(number);
+    }
     let answer = best_of(list, f, plate);
     let ours = answer.shape;
     let darts = plate.darts;
     let angles = ours.angles;
     let rights = ours.rights;
-    check_read(
-        shape,
-        g,
-        judged,
-        within,
-        &angles[..darts],
-        &rights[..darts],
-        ours.total,
-    )
+    sound_verdict(shape, g, &angles[..darts], &rights[..darts], ours.total)
 }
 
 // The verdict on a shape file against a plate list.

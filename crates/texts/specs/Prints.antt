@@ -1,15 +1,13 @@
 -- A text printed from a plan and counts.
 use mathlib.Core.Path.{_≡_}
-use mathlib.Core.Bool.{Bool, true, false, not}
+use mathlib.Core.Bool.{Bool, true, false}
 use mathlib.Core.List.{List}
 use Prim.Native.Nat.{ℕ, zero, suc, _+_, _%_, _≤_, _<_, min}
-use lib.Dec.{eqb}
 use lib.ListN.{length, getD}
 use Rattle.embedding.specs.declared.Plate.{Plate as Held}
 use Rattle.shapes.specs.Claims.{Standing}
-use Rattle.shapes.specs.Judge.{judgement}
-use Rattle.plates.specs.Plates.{Plate, firstOf, when, twin}
-use Rattle.plates.specs.Shapes.{anglesOk, evenWord, total, pairSums, allWithin}
+use Rattle.plates.specs.Plates.{twin}
+use Rattle.plates.specs.Shapes.{anglesOk, evenWord}
 use Rattle.plates.specs.Listing.{decimal}
 use Rattle.plates.specs.Text.{Entry, entry, wordText, entryText, textOf}
 use Rattle.plates.specs.Lines.{bothWays}
@@ -51,14 +49,6 @@ pub record PrintRoom (o : List ℕ) (e : List Bool) (a r : List ℕ) (room : ℕ
   pub ends-long : length e ≡ 256
   pub below : (i : ℕ) → i < length r → getD o i 0 < length r
   pub enough : length (textOf (countEntries a r (laid (length r) o e))) ≤ room
-
--- the verdict on counts, 22, 25 and 31
-abbrev pub countsFault : Plate → List ℕ → List ℕ → List ℕ → ℕ → ℕ
-countsFault p ls a r said =
-    firstOf (judgement p a r)
-    (firstOf (when (not (eqb said (total r))) 22)
-    (firstOf (when (not (allWithin ls (pairSums r))) 25)
-    (when (bothWays r) 31)))
 
 -- counts for each dart of a held plate
 pub record CountsFor (h : Held) (a r : List ℕ) : Type 0 where

@@ -1,4 +1,4 @@
-//! Counts of a shape: their refusals, and their text.
+//! Counts of a shape: whether they bend some strip both ways, and their text.
 ghost use mathlib.Core.Path.{_≡_};
 ghost use mathlib.Core.Bool.{_&&_};
 ghost use Prim.Native.Nat.{_≤_};
@@ -10,15 +10,12 @@ ghost use Rattle.shapes.specs.Claims.{Accepted};
 ghost use Rattle.plates.specs.Shapes.{shapeOf};
 ghost use Rattle.plates.specs.Listing.{Gives};
 ghost use Rattle.plates.specs.Lines.{faceText, bothWays};
-ghost use Rattle.texts.specs.Prints.{countsFault, CountsFor, PrintCounts};
+ghost use Rattle.texts.specs.Prints.{PrintCounts};
 use crate::planning::plan_of;
 use crate::printing::text_long;
 use crate::printing::write_entries;
 use embedding::Plate;
 use plates::Listed;
-use plates::checking::total_of;
-use shapes::judge::judge;
-use shapes::rates::limits_ok;
 
 pub fn is_both(x: u8, y: u8) -> bool
     ensures { λ r. ⌜ r ≡ (ltb 0 x && ltb 0 y) ⌝ }
@@ -30,7 +27,7 @@ pub fn is_both(x: u8, y: u8) -> bool
 }
 
 // Whether some strip bends both ways.
-fn both_ways(rights: &[u8]) -> bool
+pub fn both_ways(rights: &[u8]) -> bool
     requires { ⌜ length (now rights) ≤ 256 ⌝ }
     ensures { λ r. ⌜ r ≡ bothWays (now (rights .entry)) ⌝ }
 {
@@ -42,28 +39,6 @@ fn both_ways(rights: &[u8]) -> bool
         i += 2;
     }
     false
-}
-
-// The verdict on counts: 19 to 22 and 25, then 31.
-pub fn counts_fault(plate: Plate, limits: &[u8], angles: &[u8], rights: &[u8], said: usize) -> u8
-    requires { ⌜ CountsFor plate (now angles) (now rights) ⌝ }
-    ensures { λ r. ⌜ ((p : PlateOf) → Stands plate p → Accepted p → r ≡ countsFault p (now (limits .entry)) (now (angles .entry)) (now (rights .entry)) said) ⌝ }
-{
-    let judged = judge(plate, angles, rights);
-    if judged != 0 {
-        return judged;
-    }
-    let counted = total_of(rights) as usize;
-    if said != counted {
-        return 22;
-    }
-    if !limits_ok(limits, rights) {
-        return 25;
-    }
-    if both_ways(rights) {
-        return 31;
-    }
-    0
 }
 
 // Writes the text of counts, or refuses with 16.

@@ -3,15 +3,15 @@ ghost use mathlib.Core.Path.{_≡_};
 ghost use Rattle.plates.specs.Answers.{listed};
 ghost use Rattle.plates.specs.Read.{Readable};
 ghost use Rattle.plates.specs.Texts.{WriteSays, ReadSays};
-use crate::counting::counts_fault;
+use crate::counting::both_ways;
 use crate::counting::print_counts;
 use crate::filing::read_placed;
 use embedding::Plate;
 use fields::Fields;
 use fields::content;
-use fields::number_of;
 use plates::Listed;
 use plates::Shaped;
+use plates::checking::counts_fault;
 use plates::encoding::refused_shape;
 use plates::reading::read_list;
 use plates::reading::read_shape;
@@ -42,14 +42,15 @@ fn write_read(
     requires { ⌜ Readable (now list) f plate (now shape) g ⌝ }
     ensures { λ r. ⌜ WriteSays (now (list .entry)) (now (shape .entry)) (now (out .entry)) (now (out .exit)) r ⌝ }
 {
-    let angles = content(shape, g, 2);
-    let rights = content(shape, g, 3);
-    let said = number_of(shape, g, 1);
-    let limits = content(list, f, 6);
-    let number = counts_fault(plate, limits, angles, rights, said);
+    let number = counts_fault(list, f, plate, shape, g);
     if number != 0 {
         return refused_text(number);
     }
+    let rights = content(shape, g, 3);
+    if both_ways(rights) {
+        return refused_text(31);
+    }
+    let angles = content(shape, g, 2);
     print_counts(plate, angles, rights, out)
 }
 

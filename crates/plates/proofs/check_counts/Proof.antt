@@ -1,73 +1,56 @@
--- `check_counts`: the counts judged, held against the limits, and compared with those of the best shape.
-use mathlib.Core.Path.{ap, ap₂, _∙_}
-use mathlib.Core.List.{List}
-use Prim.Native.Nat.{ℕ}
+-- `check_counts`: the file's refusal, or its counts compared with those of the best shape. Assumes nothing.
+use mathlib.Core.Path.{sym, subst, _∙_}
 use native.Mathlib.Omega.{arith}
-use lib.ListN.{length}
-use Rattle.shapes.specs.Judge.{judgement}
-use Rattle.shapes.specs.Rates.{pairSums, allWithin}
+use Rattle.plates.specs.declared.Verdict.{Verdict}
 use Rattle.plates.specs.Files.{plateOf, limitsOf}
-use Rattle.plates.proofs.HeldLists.{walked-within, walked-content}
-use Rattle.plates.proofs.Calls.{read-stands, rights-even, angles-within, rights-within, angles-many, rights-many, judged-by}
+use Rattle.plates.specs.Says.{CheckSays}
+use Rattle.plates.proofs.CheckSound.{counts-refused-check}
+use Rattle.plates.proofs.Calls.{read-stands, angles-within, rights-within, angles-many, rights-many, compared}
+use borrow.Author.Needs.{needs}
 use Rattle.plates.proofs.check_counts.Statement.{statement}
 use Rattle.plates.proofs.check_counts.Tie as tie
 
-content-requires : tie.Need-content-requires
-content-requires c κs = (omega arith, walked-within (c .before .before .pre .fields))
+counts-fault-requires : tie.Need-counts-fault-requires
+counts-fault-requires c κs = search needs
 
-content-requires-2 : tie.Need-content-requires-2
-content-requires-2 c κs = (omega arith, walked-within (c .before .before .before .pre .fields))
-
-judge-requires : tie.Need-judge-requires
-judge-requires c κs = (ap length ((c .before .content .ensures) ∙ walked-content (c .before .before .before .before .pre .fields) 2 (omega arith)) ∙ (c .before .before .before .before .pre .angles-many), ap length ((c .content2 .ensures) ∙ walked-content (c .before .before .before .before .pre .fields) 3 (omega arith)) ∙ (c .before .before .before .before .pre .rights-many), read-stands (c .before .before .before .before .pre))
-
-content-requires-3 : tie.Need-content-requires-3
-content-requires-3 c κs = (omega arith, walked-within (c .before .before .before .before .before .pre .walked))
-
-limits-ok-requires : tie.Need-limits-ok-requires
-limits-ok-requires c κs = rights-even (c .before .before .before .before .before .before .pre) _ ((c .before .before .content2 .ensures) ∙ walked-content (c .before .before .before .before .before .before .pre .fields) 3 (omega arith))
-
-best-of-requires : tie.Need-best-of-requires
-best-of-requires c κs = ((c .before .before .before .before .before .before .before .pre .walked), read-stands (c .before .before .before .before .before .before .before .pre))
-
-array-share-prefix-angles : tie.Need-array-share-prefix-angles
-array-share-prefix-angles c = angles-within (limitsOf (c .before .before .before .before .before .before .before .before .before .before .before .args .list .now)) (c .before .before .before .best-of .result) (read-stands (c .before .before .before .before .before .before .before .before .before .before .before .pre)) (c .before .before .before .best-of .ensures)
-
-slice-aggregate-check-read : tie.Need-slice-aggregate-check-read
-slice-aggregate-check-read c = angles-many (limitsOf (c .before .before .before .before .before .before .before .before .before .before .before .before .args .list .now)) (c .before .before .before .before .best-of .result) (read-stands (c .before .before .before .before .before .before .before .before .before .before .before .before .pre)) (c .before .before .before .before .best-of .ensures)
-
-array-share-prefix-rights : tie.Need-array-share-prefix-rights
-array-share-prefix-rights c = rights-within (limitsOf (c .before .before .before .before .before .before .before .before .before .before .before .before .args .list .now)) (c .before .before .before .before .best-of .result) (read-stands (c .before .before .before .before .before .before .before .before .before .before .before .before .pre)) (c .before .before .before .before .best-of .ensures)
-
-slice-aggregate-check-read-2 : tie.Need-slice-aggregate-check-read-2
-slice-aggregate-check-read-2 c = rights-many (limitsOf (c .before .before .before .before .before .before .before .before .before .before .before .before .before .args .list .now)) (c .before .before .before .before .before .best-of .result) (read-stands (c .before .before .before .before .before .before .before .before .before .before .before .before .before .pre)) (c .before .before .before .before .before .best-of .ensures)
-
-check-read-requires : tie.Need-check-read-requires
-check-read-requires c κs = (c .before .before .before .before .before .before .before .before .before .before .before .before .before .pre .fields)
+refused-verdict-requires : tie.Need-refused-verdict-requires
+refused-verdict-requires c κs = search needs
 
 returns : tie.Need-returns
-returns c =
-    let angles = (c .before .before .before .before .before .before .before .before .before .before .before .content .ensures) ∙ walked-content (c .before .before .before .before .before .before .before .before .before .before .before .before .before .before .pre .fields) 2 (omega arith) in
-    let rights = (c .before .before .before .before .before .before .before .before .before .before .content2 .ensures) ∙ walked-content (c .before .before .before .before .before .before .before .before .before .before .before .before .before .before .pre .fields) 3 (omega arith) in
-    let limits = (c .before .before .before .before .before .before .before .before .content3 .ensures) ∙ walked-content (c .before .before .before .before .before .before .before .before .before .before .before .before .before .before .pre .walked) 6 (omega arith) in
-    (c .check-read .ensures) (c .before .before .before .before .before .before .before .before .before .before .before .before .before .before .args .list .now) (judged-by (c .before .before .before .before .before .before .before .before .before .before .before .before .before .before .pre) (c .before .before .before .before .before .before .best-of .result)
-    ((c .before .before .before .before .before .before .before .before .before .judge .ensures) (plateOf (c .before .before .before .before .before .before .before .before .before .before .before .before .before .before .args .list .now)) (c .before .before .before .before .before .before .before .before .before .before .before .before .before .before .pre .plate) (c .before .before .before .before .before .before .before .before .before .before .before .before .before .before .pre .accepted) ∙ ap₂ (λ (x y : List ℕ). judgement (plateOf (c .before .before .before .before .before .before .before .before .before .before .before .before .before .before .args .list .now)) x y) angles rights)
-    ((c .before .before .before .before .before .before .before .limits-ok .ensures) ∙ ap₂ (λ (x y : List ℕ). allWithin x (pairSums y)) limits rights)
-    ((c .before .before .before .before .before .before .best-of .ensures) (plateOf (c .before .before .before .before .before .before .before .before .before .before .before .before .before .before .args .list .now)) (c .before .before .before .before .before .before .before .before .before .before .before .before .before .before .pre .plate) (c .before .before .before .before .before .before .before .before .before .before .before .before .before .before .pre .accepted)))
+returns c = let a = c .before .before .before .before .before .args in subst (λ (v : Verdict). CheckSays (a .list .now) (a .shape .now) v) (sym (c .refused-verdict .ensures)) (counts-refused-check (a .list .now) (a .shape .now) (c .before .before .counts-fault .result) (c .before .before .counts-fault .ensures) (c .before .if1 .taken))
+
+best-of-requires : tie.Need-best-of-requires
+best-of-requires c κs = search needs
+
+array-share-prefix-angles : tie.Need-array-share-prefix-angles
+array-share-prefix-angles c = angles-within (limitsOf (c .before .before .before .before .before .before .before .before .args .list .now)) (c .before .before .before .best-of .result) (read-stands (c .before .before .before .before .before .before .before .before .pre)) (c .before .before .before .best-of .ensures)
+
+slice-aggregate-sound-verdict : tie.Need-slice-aggregate-sound-verdict
+slice-aggregate-sound-verdict c = angles-many (limitsOf (c .before .before .before .before .before .before .before .before .before .args .list .now)) (c .before .before .before .before .best-of .result) (read-stands (c .before .before .before .before .before .before .before .before .before .pre)) (c .before .before .before .before .best-of .ensures)
+
+array-share-prefix-rights : tie.Need-array-share-prefix-rights
+array-share-prefix-rights c = rights-within (limitsOf (c .before .before .before .before .before .before .before .before .before .args .list .now)) (c .before .before .before .before .best-of .result) (read-stands (c .before .before .before .before .before .before .before .before .before .pre)) (c .before .before .before .before .best-of .ensures)
+
+slice-aggregate-sound-verdict-2 : tie.Need-slice-aggregate-sound-verdict-2
+slice-aggregate-sound-verdict-2 c = rights-many (limitsOf (c .before .before .before .before .before .before .before .before .before .before .args .list .now)) (c .before .before .before .before .before .best-of .result) (read-stands (c .before .before .before .before .before .before .before .before .before .before .pre)) (c .before .before .before .before .before .best-of .ensures)
+
+sound-verdict-requires : tie.Need-sound-verdict-requires
+sound-verdict-requires c κs = search needs
+
+returns-2 : tie.Need-returns-2
+returns-2 c = let s = c .before .before .before .before .before .before .before .before .before .before .before .args .list .now in let r = c .before .before .before .before .before .before .before .before .before .before .before .pre in c .sound-verdict .ensures s (compared r (c .before .before .before .before .before .before .best-of .result) (sym (c .before .before .before .before .before .before .before .before .counts-fault .ensures) ∙ omega (arith, c .before .before .before .before .before .before .before .if1 .left)) (c .before .before .before .before .before .before .best-of .ensures (plateOf s) (r .plate) (r .accepted)))
 
 pub check-counts-spec : {M : Type 1} → statement M
 check-counts-spec =
     tie.close
     (tie.spec
-    content-requires
-    content-requires-2
-    judge-requires
-    content-requires-3
-    limits-ok-requires
+    counts-fault-requires
+    refused-verdict-requires
+    returns
     best-of-requires
     array-share-prefix-angles
-    slice-aggregate-check-read
+    slice-aggregate-sound-verdict
     array-share-prefix-rights
-    slice-aggregate-check-read-2
-    check-read-requires
-    returns)
+    slice-aggregate-sound-verdict-2
+    sound-verdict-requires
+    returns-2)
