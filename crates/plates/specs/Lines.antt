@@ -6,7 +6,7 @@ use mathlib.Core.List.{List, [], _∷_, _++_}
 use Prim.Native.Nat.{ℕ, zero, suc, _≤_, _<_}
 use lib.Dec.{eqb, ltb}
 use lib.ListN.{getD}
-use Rattle.embedding.specs.Read.{lead}
+pub use Rattle.embedding.specs.Read.{lead}
 use Rattle.plates.specs.Plates.{Plate, pick, isIn, distinct, darts, faceOf, faces}
 use Rattle.plates.specs.Shapes.{rights, lefts, sameB, nthW}
 use Rattle.plates.specs.Text.{Entry, entry, textOf}
