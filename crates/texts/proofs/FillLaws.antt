@@ -19,7 +19,7 @@ use Rattle.plates.specs.Shapes.{rights, lefts, sameB}
 use Rattle.plates.specs.Text.{Entry, entry}
 use Rattle.plates.specs.Lines.{isMixed, someMixed, sameFaces, wordOf, angleOf, dartsOf}
 use Rattle.texts.specs.Plan.{laid}
-use Rattle.texts.specs.Parses.{capped, GotIs, fits, Tables, FilledBy, PlanArrays, Sized, TakenPlanned}
+use Rattle.texts.specs.Parses.{capped, GotIs, fits, Tables, FilledBy, PlanArrays, Sized}
 use Rattle.texts.specs.declared.scanning.Got.{Got}
 use Rattle.texts.specs.declared.parsing.Filled.{Filled}
 use Rattle.texts.proofs.LaidLaws.{laid-long}
@@ -175,8 +175,8 @@ module _ (x : Entry) where
       }
 
 -- an entry taken
-module _ {n : ℕ} {o : List ℕ} {e : List Bool} (arrays : PlanArrays n o e) {f : Filled} {got : Got} {mixed both : Bool}
-    (both-is : both ≡ (ltb 0 (got .right) && ltb 0 (got .left))) (mixed-is : mixed ≡ (f .mixed || both)) (es : List Entry) (x : Entry) (is : GotIs x got) (filled : FilledBy (laid n o e) es f) where
+module _ {n : ℕ} {o : List ℕ} {e : List Bool} (arrays : PlanArrays n o e) {f : Filled} {a r l : List ℕ} {got : Got} {mixed both : Bool}
+    (both-is : both ≡ (ltb 0 (got .right) && ltb 0 (got .left))) (mixed-is : mixed ≡ (f .mixed || both)) (es : List Entry) (x : Entry) (is : GotIs x got) (filled : FilledBy (laid n o e) es f a r l) where
   more-mixed : mixed ≡ someMixed (es ++ (x ∷ []))
   more-mixed =
       let right = is .right in
@@ -184,31 +184,31 @@ module _ {n : ℕ} {o : List ℕ} {e : List Bool} (arrays : PlanArrays n o e) {f
       mixed-is ∙ (λ i. filled .mixed i || both) ∙ ap (λ (b : Bool). someMixed es || b) (both-is ∙ (λ i. ltb 0 (right i) && ltb 0 (left i))) ∙ sym (mixed-more es x)
 
   -- not the plan's, since an entry before was not
-  pub taken-late : {r : Filled} → f .fits ≡ false → r .mixed ≡ mixed → r .fits ≡ false → FilledBy (laid n o e) (es ++ (x ∷ [])) r
-  taken-late {r} late m q = record {
+  pub taken-late : {q : Filled} → f .fits ≡ false → q .mixed ≡ mixed → q .fits ≡ false → FilledBy (laid n o e) (es ++ (x ∷ [])) q a r l
+  taken-late {q} late m z = record {
     mixed = m ∙ more-mixed;
-    fitting = q ∙ sym (fits-more es (laid n o e) x ∙ ap (λ (b : Bool). b && (ltb (length es) (length (laid n o e)) && matches x (getD (laid n o e) (length es) none))) (sym (filled .fitting) ∙ late));
-    count = λ t. absurd (not-both t q);
-    tables = λ t. absurd (not-both t q);
+    fitting = z ∙ sym (fits-more es (laid n o e) x ∙ ap (λ (b : Bool). b && (ltb (length es) (length (laid n o e)) && matches x (getD (laid n o e) (length es) none))) (sym (filled .fitting) ∙ late));
+    count = λ t. absurd (not-both t z);
+    tables = λ t. absurd (not-both t z);
   }
 
-  module _ (good : f .fits ≡ true) {i : ℕ} (i-is : i ≡ f .count) {planned : Bool} (planned-is : planned ≡ (ltb i n && (eqb (got .dart) (getD o i 0) && sameB (got .ends) (getD e i false)))) where
-    place : i ≡ length es
-    place = i-is ∙ filled .count good
+  module _ (good : f .fits ≡ true) {planned : Bool} (planned-is : planned ≡ (ltb (f .count) n && (eqb (got .dart) (getD o (f .count) 0) && sameB (got .ends) (getD e (f .count) false)))) where
+    abbrev i : ℕ
+    i = f .count
 
     fits-is : fits (es ++ (x ∷ [])) (laid n o e) ≡ planned
     fits-is =
         fits-more es (laid n o e) x
         ∙ ap (λ (b : Bool). b && (ltb (length es) (length (laid n o e)) && matches x (getD (laid n o e) (length es) none))) (sym (filled .fitting) ∙ good)
-        ∙ ap (λ (j : ℕ). ltb j (length (laid n o e)) && matches x (getD (laid n o e) j none)) (sym place)
+        ∙ ap (λ (j : ℕ). ltb j (length (laid n o e)) && matches x (getD (laid n o e) j none)) (sym (filled .count good))
         ∙ sym (planned-is ∙ next-test arrays i x (got .dart) (got .ends) (is .dart) (is .ends))
 
-    pub taken-other : {r : Filled} → planned ≡ false → r .mixed ≡ mixed → r .fits ≡ false → FilledBy (laid n o e) (es ++ (x ∷ [])) r
-    taken-other {r} other m q = record {
+    pub taken-other : {q : Filled} → planned ≡ false → q .mixed ≡ mixed → q .fits ≡ false → FilledBy (laid n o e) (es ++ (x ∷ [])) q a r l
+    taken-other {q} other m z = record {
       mixed = m ∙ more-mixed;
-      fitting = q ∙ sym (fits-is ∙ other);
-      count = λ t. absurd (not-both t q);
-      tables = λ t. absurd (not-both t q);
+      fitting = z ∙ sym (fits-is ∙ other);
+      count = λ t. absurd (not-both t z);
+      tables = λ t. absurd (not-both t z);
     }
 
     module _ (yes-planned : planned ≡ true) where
@@ -223,43 +223,28 @@ module _ {n : ℕ} {o : List ℕ} {e : List Bool} (arrays : PlanArrays n o e) {f
           let q = eqb-true (got .dart) (getD o i 0) (and-left (eqb (got .dart) (getD o i 0)) _ (and-right (ltb i n) _ test)) in
           omega (arith, is .dart, arrays .below i i-below)
 
-      pub taken-planned : {r : Filled} {d : ℕ} → d ≡ getD o i 0 → TakenPlanned f mixed d got r → FilledBy (laid n o e) (es ++ (x ∷ [])) r
-      taken-planned {r} {d} d-is t = record {
-        mixed = t .mixed-is ∙ more-mixed;
-        fitting = t .fits-is ∙ sym (fits-is ∙ yes-planned);
-        count = λ z. omega (arith, t .count-is, filled .count good, length-append es (x ∷ []));
-        tables = λ z.
-            subst (λ (a : List ℕ). Tables (es ++ (x ∷ [])) a (r .rights) (r .lefts)) (sym (t .angles-are))
-            (subst (λ (a : List ℕ). Tables (es ++ (x ∷ [])) (set (f .angles) d (got .angle)) a (r .lefts)) (sym (t .rights-are))
-            (subst (λ (a : List ℕ). Tables (es ++ (x ∷ [])) (set (f .angles) d (got .angle)) (set (f .rights) d (got .right)) a) (sym (t .lefts-are))
-            (tables-more x d (got .angle) (got .right) (got .left) (filled .tables good) new (d-is ∙ dart-is) (omega (arith, d-is, arrays .below i i-below)) (is .angle) (is .right) (is .left))));
+      pub taken-planned : {d : ℕ} → d ≡ getD o i 0 → FilledBy (laid n o e) (es ++ (x ∷ [])) (record { mixed = mixed; fits = true; count = i + 1 }) (set a d (got .angle)) (set r d (got .right)) (set l d (got .left))
+      taken-planned {d} d-is = record {
+        mixed = more-mixed;
+        fitting = sym (fits-is ∙ yes-planned);
+        count = λ z. omega (arith, filled .count good, length-append es (x ∷ []));
+        tables = λ z. tables-more x d (got .angle) (got .right) (got .left) (filled .tables good) new (d-is ∙ dart-is) (omega (arith, d-is, arrays .below i i-below)) (is .angle) (is .right) (is .left);
       }
         where
           new : isIn (x .dart) (dartsOf es) ≡ false
           new = last-new es x (fits-distinct (es ++ (x ∷ [])) (laid n o e) (fits-is ∙ yes-planned) (arrays .once))
 
--- sizes
-pub sized-same : {f r : Filled} → Sized f → r .angles ≡ f .angles → r .rights ≡ f .rights → r .lefts ≡ f .lefts → Sized r
-sized-same s a b c = record { angles = ap length a ∙ s .angles; rights = ap length b ∙ s .rights; lefts = ap length c ∙ s .lefts }
-
-pub sized-taken : {f r : Filled} {mixed : Bool} {d : ℕ} {got : Got} → Sized f → TakenPlanned f mixed d got r → Sized r
-sized-taken {f} {r} {mixed} {d} {got} s t = record {
-  angles = ap length (t .angles-are) ∙ length-set (f .angles) d (got .angle) ∙ s .angles;
-  rights = ap length (t .rights-are) ∙ length-set (f .rights) d (got .right) ∙ s .rights;
-  lefts = ap length (t .lefts-are) ∙ length-set (f .lefts) d (got .left) ∙ s .lefts;
-}
+pub sized-set : {a r l : List ℕ} (d angle right left : ℕ) → Sized a r l → Sized (set a d angle) (set r d right) (set l d left)
+sized-set {a} {r} {l} d angle right left s = record { angles = length-set a d angle ∙ s .angles; rights = length-set r d right ∙ s .rights; lefts = length-set l d left ∙ s .lefts }
 
 -- nothing read
 nothing-table : Table 256 (λ d. 0) (replicate 256 0)
 nothing-table = record { size = length-replicate {A = ℕ} 256 0; at = λ i l. getD-replicate {A = ℕ} 256 i 0 0 l }
 
-abbrev pub nothing : Filled
-nothing = record { mixed = false; fits = true; count = 0; angles = replicate 256 0; rights = replicate 256 0; lefts = replicate 256 0 }
-
-pub nothing-sized : Sized nothing
+pub nothing-sized : Sized (replicate 256 0) (replicate 256 0) (replicate 256 0)
 nothing-sized = record { angles = length-replicate {A = ℕ} 256 0; rights = length-replicate {A = ℕ} 256 0; lefts = length-replicate {A = ℕ} 256 0 }
 
-pub nothing-filled : (plan : List Entry) → FilledBy plan [] nothing
+pub nothing-filled : (plan : List Entry) → FilledBy plan [] (record { mixed = false; fits = true; count = 0 }) (replicate 256 0) (replicate 256 0) (replicate 256 0)
 nothing-filled plan = record {
   mixed = refl;
   fitting = refl;

@@ -12,24 +12,24 @@ use Rattle.plates.specs.Plates.{pick, firstOf, when}
 use Rattle.plates.specs.Text.{Entry}
 use Rattle.plates.specs.Grammar.{entryOk, entryIn, behind, formFrom, entriesFrom, formOk, entriesIn}
 use Rattle.plates.specs.Lines.{someMixed, sameFaces}
-use Rattle.texts.specs.Parses.{EntryGot, EntryRead, GotIs, fits, Tables, FilledBy, Sized, entriesFault, entriesNumber, ParsedBy}
+use Rattle.texts.specs.Parses.{EntryGot, EntryRead, GotIs, fits, FilledBy, Sized, entriesFault, entriesNumber, ParsedBy}
 use Rattle.texts.specs.declared.scanning.Got.{Got}
 use Rattle.texts.specs.declared.parsing.Filled.{Filled}
 use Rattle.texts.specs.declared.parsing.Parsed.{Parsed}
 use Rattle.texts.proofs.FillLaws.{same-fits}
 
 -- at a place of the text t, where a line is ended or not
-pub record Parsing (plan : List Entry) (t : List ℕ) (f : Filled) (ended : Bool) (at : ℕ) : Type 0 where
+pub record Parsing (plan : List Entry) (t : List ℕ) (a r l : List ℕ) (f : Filled) (ended : Bool) (at : ℕ) : Type 0 where
   pub done : List Entry
   pub fuel : ℕ
   pub form : formFrom fuel ended (drop at t) ≡ formOk t
   pub entries : done ++ entriesFrom fuel (drop at t) ≡ entriesIn t
   pub enough : length t < at + fuel
   pub within : at ≤ length t
-  pub filled : FilledBy plan done f
-  pub sized : Sized f
+  pub filled : FilledBy plan done f a r l
+  pub sized : Sized a r l
 
-pub parsing-start : (plan : List Entry) (t : List ℕ) {f : Filled} → FilledBy plan [] f → Sized f → Parsing plan t f true 0
+pub parsing-start : (plan : List Entry) (t : List ℕ) {a r l : List ℕ} {f : Filled} → FilledBy plan [] f a r l → Sized a r l → Parsing plan t a r l f true 0
 parsing-start plan t filled sized = record {
   done = [];
   fuel = suc (length t);
@@ -45,7 +45,7 @@ one-fuel : (k n at : ℕ) → n < at + k → at ≤ n → (j : ℕ) × (k ≡ su
 one-fuel zero n at l m = absurd (omega arith)
 one-fuel (suc j) n at l m = (j, refl)
 
-module _ {plan : List Entry} {t : List ℕ} {f : Filled} {ended : Bool} {at : ℕ} (h : Parsing plan t f ended at) where
+module _ {plan : List Entry} {t a r l : List ℕ} {f : Filled} {ended : Bool} {at : ℕ} (h : Parsing plan t a r l f ended at) where
   abbrev s : List ℕ
   s = drop at t
 
@@ -53,7 +53,7 @@ module _ {plan : List Entry} {t : List ℕ} {f : Filled} {ended : Bool} {at : �
   opened : (j : ℕ) × (h .fuel ≡ suc j)
   opened = one-fuel (h .fuel) (length t) at (h .enough) (h .within)
 
-  module _ (l : at < length t) where
+  module _ (within : at < length t) where
     some : eqb (length s) 0 ≡ false
     some = ne-eqb (length s) 0 (λ z. omega (arith, length-drop at t))
 
@@ -82,8 +82,8 @@ module _ {plan : List Entry} {t : List ℕ} {f : Filled} {ended : Bool} {at : �
         rest-is : behind s ≡ drop (at + e .long) t
         rest-is = got .rest ∙ drop-drop (e .long) at t
 
-        pub parsing-more : {r : Filled} → FilledBy plan (h .done ++ (entryIn s ∷ [])) r → Sized r → Parsing plan t r (e .ends) (at + e .long)
-        parsing-more {r} filled sized = record {
+        pub parsing-more : {a′ r′ l′ : List ℕ} {q : Filled} → FilledBy plan (h .done ++ (entryIn s ∷ [])) q a′ r′ l′ → Sized a′ r′ l′ → Parsing plan t a′ r′ l′ q (e .ends) (at + e .long)
+        parsing-more filled sized = record {
           done = h .done ++ (entryIn s ∷ []);
           fuel = opened .0;
           form = form-is;
@@ -107,12 +107,12 @@ module _ {plan : List Entry} {t : List ℕ} {f : Filled} {ended : Bool} {at : �
                 ∙ sym (ap (λ (b : Bool). b && formFrom (opened .0) (entryIn s .ends) (behind s)) ok-is) ∙ step-form
 
         -- for every plan and entries so far
-        pub taken : {r : Filled} → ((es : List Entry) (x : Entry) → GotIs x e → FilledBy plan es f → FilledBy plan (es ++ (x ∷ [])) r) → FilledBy plan (h .done ++ (entryIn s ∷ [])) r
+        pub taken : {a′ r′ l′ : List ℕ} {q : Filled} → ((es : List Entry) (x : Entry) → GotIs x e → FilledBy plan es f a r l → FilledBy plan (es ++ (x ∷ [])) q a′ r′ l′) → FilledBy plan (h .done ++ (entryIn s ∷ [])) q a′ r′ l′
         taken more = more (h .done) (entryIn s) (got .is) (h .filled)
 
-  module _ (l : length t ≤ at) where
+  module _ (over : length t ≤ at) where
     nothing-left : s ≡ []
-    nothing-left = drop-of-length-le t l
+    nothing-left = drop-of-length-le t over
 
     end-form : formOk t ≡ ended
     end-form = sym (h .form) ∙ (λ i. formFrom (opened .1 i) ended (nothing-left i))
@@ -124,8 +124,8 @@ module _ {plan : List Entry} {t : List ℕ} {f : Filled} {ended : Bool} {at : �
     not-ended e = end-form ∙ e
 
     module _ (closed : ended ≡ true) (n : ℕ) (long : length plan ≡ n) where
-      pub end-filled : FilledBy plan (entriesIn t) f
-      end-filled = subst (λ (es : List Entry). FilledBy plan es f) (sym end-entries) (h .filled)
+      pub end-filled : FilledBy plan (entriesIn t) f a r l
+      end-filled = subst (λ (es : List Entry). FilledBy plan es f a r l) (sym end-entries) (h .filled)
 
       same-is : (f .fits && eqb (f .count) n) ≡ sameFaces (entriesIn t) plan
       same-is = go (f .fits) refl
@@ -158,13 +158,9 @@ number-fits true fitting count n e = absurd (omega arith)
 number-fits false true count n e = refl
 number-fits false false count n e = absurd (omega arith)
 
-pub all-read : {plan : List Entry} {t : List ℕ} {f : Filled} {r : Parsed} {number : ℕ} (n : ℕ) → FilledBy plan (entriesIn t) f → entriesNumber (f .mixed) (f .fits) (f .count) n ≡ entriesFault plan t
-    → number ≡ entriesNumber (f .mixed) (f .fits) (f .count) n → r .number ≡ number → r .angles ≡ f .angles → r .rights ≡ f .rights → r .lefts ≡ f .lefts → ParsedBy plan t r
-all-read {plan} {t} {f} {r} {number} n filled fault number-is q a b c = record {
-  number = q ∙ number-is ∙ fault;
-  tables = λ z.
-      let held = filled .tables (number-fits (f .mixed) (f .fits) (f .count) n (sym number-is ∙ sym q ∙ z)) in
-      subst (λ (x : List ℕ). Tables (entriesIn t) x (r .rights) (r .lefts)) (sym a)
-      (subst (λ (x : List ℕ). Tables (entriesIn t) (f .angles) x (r .lefts)) (sym b)
-      (subst (λ (x : List ℕ). Tables (entriesIn t) (f .angles) (f .rights) x) (sym c) held));
+pub all-read : {plan : List Entry} {t a r l : List ℕ} {f : Filled} {number : ℕ} (n : ℕ) → FilledBy plan (entriesIn t) f a r l → entriesNumber (f .mixed) (f .fits) (f .count) n ≡ entriesFault plan t
+    → number ≡ entriesNumber (f .mixed) (f .fits) (f .count) n → ParsedBy plan t (record { number = number; angles = a; rights = r; lefts = l })
+all-read {plan} {t} {a} {r} {l} {f} {number} n filled fault number-is = record {
+  number = number-is ∙ fault;
+  tables = λ z. filled .tables (number-fits (f .mixed) (f .fits) (f .count) n (sym number-is ∙ z));
 }

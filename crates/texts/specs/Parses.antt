@@ -2,9 +2,9 @@
 use mathlib.Core.Path.{_≡_}
 use mathlib.Core.Bool.{Bool, true, false, _&&_, not}
 use mathlib.Core.List.{List, [], _∷_}
-use Prim.Native.Nat.{ℕ, zero, suc, _+_, _≤_, _<_, min}
+use Prim.Native.Nat.{ℕ, zero, suc, _≤_, _<_, min}
 use lib.Dec.{eqb}
-use lib.ListN.{length, getD, take, drop, set}
+use lib.ListN.{length, getD, take, drop}
 use Rattle.finite.specs.Tables.{Table}
 use Rattle.plates.specs.Plates.{firstOf, when, distinct, twin}
 use Rattle.plates.specs.Shapes.{rights, lefts, sameB}
@@ -64,11 +64,11 @@ pub record Tables (es : List Entry) (a r l : List ℕ) : Type 0 where
   pub rights : Table 256 (λ d. rights (wordOf d es)) r
   pub lefts : Table 256 (λ d. lefts (wordOf d es)) l
 
-pub record FilledBy (plan es : List Entry) (f : Filled) : Type 0 where
+pub record FilledBy (plan es : List Entry) (f : Filled) (a r l : List ℕ) : Type 0 where
   pub mixed : f .mixed ≡ someMixed es
   pub fitting : f .fits ≡ fits es plan
   pub count : f .fits ≡ true → f .count ≡ length es
-  pub tables : f .fits ≡ true → Tables es (f .angles) (f .rights) (f .lefts)
+  pub tables : f .fits ≡ true → Tables es a r l
 
 -- a plan in arrays
 pub record PlanArrays (n : ℕ) (o : List ℕ) (e : List Bool) : Type 0 where
@@ -79,10 +79,10 @@ pub record PlanArrays (n : ℕ) (o : List ℕ) (e : List Bool) : Type 0 where
   pub once : distinct (dartsOf (laid n o e)) ≡ true
 
 -- arrays of 256 places
-pub record Sized (f : Filled) : Type 0 where
-  pub angles : length (f .angles) ≡ 256
-  pub rights : length (f .rights) ≡ 256
-  pub lefts : length (f .lefts) ≡ 256
+pub record Sized (a r l : List ℕ) : Type 0 where
+  pub angles : length a ≡ 256
+  pub rights : length r ≡ 256
+  pub lefts : length l ≡ 256
 
 -- 30 over the whole text, 31 over the whole text, then the faces
 abbrev pub entriesFault : List Entry → List ℕ → ℕ
@@ -103,12 +103,3 @@ twinCounts (suc n) d r l = (eqb (getD r (twin d) 0) (getD l d 0) && eqb (getD l 
 -- 31 and 32 from what was read
 abbrev pub entriesNumber : Bool → Bool → ℕ → ℕ → ℕ
 entriesNumber mixed fitting count n = firstOf (when mixed 31) (when (not (fitting && eqb count n)) 32)
-
--- one planned entry taken, of dart d
-pub record TakenPlanned (f : Filled) (mixed : Bool) (d : ℕ) (e : Got) (r : Filled) : Type 0 where
-  pub mixed-is : r .mixed ≡ mixed
-  pub fits-is : r .fits ≡ true
-  pub count-is : r .count ≡ f .count + 1
-  pub angles-are : r .angles ≡ set (f .angles) d (e .angle)
-  pub rights-are : r .rights ≡ set (f .rights) d (e .right)
-  pub lefts-are : r .lefts ≡ set (f .lefts) d (e .left)

@@ -2,27 +2,24 @@
 ghost use mathlib.Core.Path.{_≡_};
 ghost use mathlib.Core.Bool.{false, _&&_, _||_};
 ghost use mathlib.Core.List.{List, _∷_, [], _++_};
-ghost use Prim.Native.Nat.{_%_, _≤_, _<_};
+ghost use Prim.Native.Nat.{_%_, _≤_};
 ghost use lib.Dec.{eqb, ltb};
 ghost use lib.ListN.{getD};
 ghost use Rattle.plates.specs.Shapes.{sameB};
 ghost use Rattle.plates.specs.Text.{Entry};
 ghost use Rattle.texts.specs.Plan.{laid};
-ghost use Rattle.texts.specs.Parses.{GotIs, FilledBy, PlanArrays, Sized, ParsedBy, TakenPlanned, entriesNumber, twinCounts};
+ghost use Rattle.texts.specs.Parses.{GotIs, FilledBy, PlanArrays, Sized, ParsedBy, entriesNumber, twinCounts};
 use crate::counting::is_both;
 use crate::planning::wide;
 use crate::scanning::Got;
 use crate::scanning::read_entry;
 use embedding::twin_of;
 
-// The entries read so far: whether some word is mixed, whether they are the first of the plan, how many, and by dart what they say.
+// The entries read so far: whether some word is mixed, whether they are the first of the plan, and how many.
 pub struct Filled {
     pub mixed: bool,
     pub fits: bool,
     pub count: usize,
-    pub angles: [u8; 256],
-    pub rights: [u8; 256],
-    pub lefts: [u8; 256],
 }
 
 // The number of the refusal, 30 to 32, or 0 with what the text says of each dart.
@@ -72,86 +69,47 @@ fn is_planned(
     is_same(last, ends[i])
 }
 
-// One entry more that is not the plan's.
-fn take_other(f: Filled, mixed: bool) -> Filled
-    ensures { λ r. ⌜ (r .mixed ≡ mixed) × (r .fits ≡ false) × (r .angles ≡ f .angles) × (r .rights ≡ f .rights) × (r .lefts ≡ f .lefts) ⌝ }
+// One entry more; where it is the plan's next, what it says is stored by its dart.
+fn take_entry(
+    order: &[u8; 256],
+    ends: &[bool; 256],
+    n: usize,
+    f: Filled,
+    e: Got,
+    angles: &mut [u8],
+    rights: &mut [u8],
+    lefts: &mut [u8],
+) -> Filled
+    requires { ⌜ PlanArrays n (now order) (now ends) × Sized (now angles) (now rights) (now lefts) ⌝ }
+    ensures { λ r. ⌜ Sized (now (angles .exit)) (now (rights .exit)) (now (lefts .exit)) × ((es : List Entry) (x : Entry) → GotIs x e → FilledBy (laid n (now (order .entry)) (now (ends .entry))) es f (now (angles .entry)) (now (rights .entry)) (now (lefts .entry)) → FilledBy (laid n (now (order .entry)) (now (ends .entry))) (es ++ (x ∷ [])) r (now (angles .exit)) (now (rights .exit)) (now (lefts .exit))) ⌝ }
 {
-    let angles = f.angles;
-    let rights = f.rights;
-    let lefts = f.lefts;
-    Filled {
-        mixed,
-        fits: false,
-        count: 0,
-        angles,
-        rights,
-        lefts,
+    let mixed = either(f.mixed, is_both(e.right, e.left));
+    if !f.fits {
+        return not_fitting(mixed);
     }
-}
-
-// One entry more that is the plan's next.
-fn take_planned(f: Filled, mixed: bool, d: usize, e: Got) -> Filled
-    requires { ⌜ (d < 256) × Sized f × (f .count < 256) ⌝ }
-    ensures { λ r. ⌜ TakenPlanned f mixed d e r ⌝ }
-{
-    let mut angles = f.angles;
-    let mut rights = f.rights;
-    let mut lefts = f.lefts;
+    let i = f.count;
+    if !is_planned(order, ends, n, i, e.dart, e.ends) {
+        return not_fitting(mixed);
+    }
+    let d = wide(order[i]);
     angles[d] = e.angle;
     rights[d] = e.right;
     lefts[d] = e.left;
     Filled {
         mixed,
         fits: true,
-        count: f.count + 1,
-        angles,
-        rights,
-        lefts,
+        count: i + 1,
     }
 }
 
-// One entry more.
-fn take_entry(order: &[u8; 256], ends: &[bool; 256], n: usize, f: Filled, e: Got) -> Filled
-    requires { ⌜ PlanArrays n (now order) (now ends) × Sized f ⌝ }
-    ensures { λ r. ⌜ Sized r × ((es : List Entry) (x : Entry) → GotIs x e → FilledBy (laid n (now (order .entry)) (now (ends .entry))) es f → FilledBy (laid n (now (order .entry)) (now (ends .entry))) (es ++ (x ∷ [])) r) ⌝ }
-{
-    let mixed = either(f.mixed, is_both(e.right, e.left));
-    if !f.fits {
-        return take_other(f, mixed);
-    }
-    let i = f.count;
-    if !is_planned(order, ends, n, i, e.dart, e.ends) {
-        return take_other(f, mixed);
-    }
-    let d = wide(order[i]);
-    take_planned(f, mixed, d, e)
-}
-
-fn no_entries() -> Filled
-    ensures { λ r. ⌜ Sized r × ((plan : List Entry) → FilledBy plan [] r) ⌝ }
+// Entries of which one is not the plan's.
+fn not_fitting(mixed: bool) -> Filled
+    ensures { λ r. ⌜ (r .mixed ≡ mixed) × (r .fits ≡ false) ⌝ }
 {
     Filled {
-        mixed: false,
-        fits: true,
+        mixed,
+        fits: false,
         count: 0,
-        angles: [0; 256],
-        rights: [0; 256],
-        lefts: [0; 256],
-    }
-}
-
-// A refusal, or what was read of the whole text.
-fn answer(number: u8, f: Filled) -> Parsed
-    ensures { λ r. ⌜ (r .number ≡ number) × (r .angles ≡ f .angles) × (r .rights ≡ f .rights) × (r .lefts ≡ f .lefts) ⌝ }
-{
-    let angles = f.angles;
-    let rights = f.rights;
-    let lefts = f.lefts;
-    Parsed {
-        number,
-        angles,
-        rights,
-        lefts,
     }
 }
 
@@ -176,23 +134,47 @@ pub fn parse(text: &[u8], order: &[u8; 256], ends: &[bool; 256], n: usize) -> Pa
     requires { ⌜ PlanArrays n (now order) (now ends) ⌝ }
     ensures { λ r. ⌜ ParsedBy (laid n (now (order .entry)) (now (ends .entry))) (now (text .entry)) r ⌝ }
 {
-    let mut f = no_entries();
+    let mut angles = [0u8; 256];
+    let mut rights = [0u8; 256];
+    let mut lefts = [0u8; 256];
+    let mut f = Filled {
+        mixed: false,
+        fits: true,
+        count: 0,
+    };
     let mut is_closed = true;
     let mut at = 0;
     while at < text.len() {
         let e = read_entry(&text[at..]);
         if !e.ok {
-            return answer(30, f);
+            return form_refused();
         }
-        let more = take_entry(order, ends, n, f, e);
-        f = more;
+        f = take_entry(order, ends, n, f, e, &mut angles, &mut rights, &mut lefts);
         is_closed = e.ends;
         at += e.long;
     }
     if !is_closed {
-        return answer(30, f);
+        return form_refused();
     }
-    answer(entries_number(f.mixed, f.fits, f.count, n), f)
+    let number = entries_number(f.mixed, f.fits, f.count, n);
+    Parsed {
+        number,
+        angles,
+        rights,
+        lefts,
+    }
+}
+
+// A text that is not of the form.
+fn form_refused() -> Parsed
+    ensures { λ r. ⌜ r .number ≡ 30 ⌝ }
+{
+    Parsed {
+        number: 30,
+        angles: [0; 256],
+        rights: [0; 256],
+        lefts: [0; 256],
+    }
 }
 
 // Whether each dart has as many bends one way as its twin the other.
