@@ -1,12 +1,16 @@
-//! Shapes and checks small plates and prints a line for each. The expected lines were worked out by hand from document 01.
+//! Shapes and checks small plates, converts their shapes to text and back, and prints a line for each. The expected lines were worked out by hand from document 01.
 //! A line of shaping: the label, the number, and with 0 the length, the bends and the bytes; then how many bytes behind the
 //! shape, or with a refusal in the whole memory, are as they were lent. A line of checking: the label, the number, and with
-//! 0 the total, the fewest and whether the shape is the one that shaping writes.
+//! 0 the total, the fewest and whether the shape is the one that shaping writes. A line of text: a shape file converted to
+//! its text, which stands behind the line; a line of back: a text converted to the shape file, as a line of shaping.
 ghost use Prim.Native.Nat.{_<_};
 use libc::STDOUT_FILENO;
+use plates::Listed;
 use plates::Shaped;
 use plates::check_shape;
 use plates::write_shape;
+use texts::read_text;
+use texts::write_text;
 
 fn say(text: &[u8]) {
     io::write_all(STDOUT_FILENO, text);
@@ -785,6 +789,200 @@ fn ring_of_64() {
     shape_into(b"ring of 64", &list, &mut memory);
 }
 
+// Writes what the conversion to text answers and what it left in the memory, and the text.
+fn say_listed(listed: Listed, memory: &[u8]) {
+    say_number(b": ", listed.number as u64);
+    if listed.number != 0 {
+        say_untouched(b" memory ", memory);
+        return;
+    }
+    let long = listed.long;
+    say_number(b" length ", long as u64);
+    if memory.len() < long {
+        return;
+    }
+    say_untouched(b" behind ", &memory[long..]);
+    say(&memory[..long]);
+}
+
+fn text_into(label: &[u8], list: &[u8], shape: &[u8], memory: &mut [u8]) {
+    let listed = write_text(list, shape, memory);
+    say(b"text ");
+    say(label);
+    say_listed(listed, memory);
+}
+
+fn text(label: &[u8], list: &[u8], shape: &[u8]) {
+    let mut memory = [0xeeu8; 60];
+    text_into(label, list, shape, &mut memory);
+}
+
+fn text_p1(label: &[u8], shape: &[u8]) {
+    text(
+        label,
+        b"\x01\x00\x02\x00\x07\x02\x00\x01\x02\x03\x00\x04\x00\x01\x00\x01\x04\x00\x04\x00\x02\x01\x03\x05\x00\x01\x01",
+        shape,
+    );
+}
+
+fn back_into(label: &[u8], list: &[u8], text: &[u8], memory: &mut [u8]) {
+    let shaped = read_text(list, text, memory);
+    say(b"back ");
+    say(label);
+    say_shaped(shaped, memory);
+}
+
+fn back(label: &[u8], list: &[u8], text: &[u8]) {
+    let mut memory = [0xeeu8; 60];
+    back_into(label, list, text, &mut memory);
+}
+
+fn back_p1(label: &[u8], text: &[u8]) {
+    back(
+        label,
+        b"\x01\x00\x02\x00\x07\x02\x00\x01\x02\x03\x00\x04\x00\x01\x00\x01\x04\x00\x04\x00\x02\x01\x03\x05\x00\x01\x01",
+        text,
+    );
+}
+
+// Both ways: P1, P2, a strip to itself, a shape that is not ours, a remark.
+fn texts() {
+    text_p1(
+        b"P1",
+        b"\x11\x00\x02\x00\x07\x12\x00\x02\x00\x02\x13\x00\x04\x01\x03\x03\x01\x14\x00\x04\x00\x00\x00\x02",
+    );
+    text(
+        b"P2",
+        b"\x01\x00\x02\x00\x07\x02\x00\x01\x03\x03\x00\x06\x00\x01\x01\x02\x02\x00\x04\x00\x06\x00\x05\x01\x02\x03\x04\x05\x00\x01\x01",
+        b"\x11\x00\x02\x00\x07\x12\x00\x02\x00\x01\x13\x00\x06\x01\x03\x01\x03\x01\x03\x14\x00\x06\x00\x00\x00\x00\x01\x00",
+    );
+    text(
+        b"one strip to itself",
+        b"\x01\x00\x02\x00\x07\x02\x00\x01\x01\x03\x00\x02\x00\x00\x04\x00\x02\x00\x01\x05\x00\x01\x01",
+        b"\x11\x00\x02\x00\x07\x12\x00\x02\x00\x03\x13\x00\x02\x01\x03\x14\x00\x02\x03\x00",
+    );
+    text_p1(
+        b"P1, bends on dart 0",
+        b"\x11\x00\x02\x00\x07\x12\x00\x02\x00\x02\x13\x00\x04\x01\x03\x03\x01\x14\x00\x04\x02\x00\x00\x00",
+    );
+    back_p1(b"P1", b"1 - 3 2 11 3\n0 - 1 3 00 1\n");
+    back_p1(b"P1, bends on dart 0", b"1 11 3 2 - 3\n0 00 1 3 - 1\n");
+    back(
+        b"P1 and remark",
+        b"\x01\x00\x02\x00\x07\x02\x00\x01\x02\x03\x00\x04\x00\x01\x00\x01\x04\x00\x04\x00\x02\x01\x03\x05\x00\x01\x01\x06\x00\x02\x48\x69",
+        b"1 - 3 2 11 3\n0 - 1 3 00 1\n",
+    );
+    back(
+        b"one strip to itself",
+        b"\x01\x00\x02\x00\x07\x02\x00\x01\x01\x03\x00\x02\x00\x00\x04\x00\x02\x00\x01\x05\x00\x01\x01",
+        b"1 111 3\n0 000 1\n",
+    );
+}
+
+// To text: the list, 19, 22, 25, then 31.
+fn texts_refused() {
+    text(
+        b"P1, list cut",
+        b"\x01\x00\x02\x00\x07\x02\x00\x01\x02\x03\x00\x04\x00\x01\x00\x01\x04\x00\x04\x00\x02\x01\x03\x05\x00\x01",
+        b"\x11\x00\x02\x00\x07\x12\x00\x02\x00\x02\x13\x00\x04\x01\x03\x03\x01\x14\x00\x04\x00\x00\x00\x02",
+    );
+    text_p1(
+        b"P1, an angle of 5",
+        b"\x11\x00\x02\x00\x07\x12\x00\x02\x00\x02\x13\x00\x04\x05\x03\x03\x01\x14\x00\x04\x00\x00\x00\x02",
+    );
+    text_p1(
+        b"P1, total 3",
+        b"\x11\x00\x02\x00\x07\x12\x00\x02\x00\x03\x13\x00\x04\x01\x03\x03\x01\x14\x00\x04\x00\x00\x00\x02",
+    );
+    text(
+        b"P1, limits 2 1",
+        b"\x01\x00\x02\x00\x07\x02\x00\x01\x02\x03\x00\x04\x00\x01\x00\x01\x04\x00\x04\x00\x02\x01\x03\x05\x00\x01\x01\x07\x00\x02\x02\x01",
+        b"\x11\x00\x02\x00\x07\x12\x00\x02\x00\x02\x13\x00\x04\x01\x03\x03\x01\x14\x00\x04\x00\x00\x00\x02",
+    );
+    text_p1(
+        b"P1, strip 0 both ways",
+        b"\x11\x00\x02\x00\x07\x12\x00\x02\x00\x04\x13\x00\x04\x01\x03\x03\x01\x14\x00\x04\x01\x01\x00\x02",
+    );
+    text(
+        b"P1, strip 0 both ways, limits 1 2",
+        b"\x01\x00\x02\x00\x07\x02\x00\x01\x02\x03\x00\x04\x00\x01\x00\x01\x04\x00\x04\x00\x02\x01\x03\x05\x00\x01\x01\x07\x00\x02\x01\x02",
+        b"\x11\x00\x02\x00\x07\x12\x00\x02\x00\x04\x13\x00\x04\x01\x03\x03\x01\x14\x00\x04\x01\x01\x00\x02",
+    );
+}
+
+// Back: the list, then 30, 31, 32.
+fn lines_refused() {
+    back(
+        b"P8, no text",
+        b"\x01\x00\x02\x00\x07\x02\x00\x01\x02\x03\x00\x06\x00\x01\x00\x01\x00\x01\x04\x00\x06\x00\x02\x04\x01\x03\x05\x05\x00\x01\x01",
+        b"",
+    );
+    back_p1(b"no text", b"");
+    back_p1(b"last line not ended", b"1 - 3 2 11 3\n0 - 1 3 00 1");
+    back_p1(b"leading zero", b"01 - 3 2 11 3\n0 - 1 3 00 1\n");
+    back_p1(b"both digits", b"1 - 3 2 10 3\n0 - 1 3 10 1\n");
+    back_p1(b"both digits, then no angle", b"1 - 3 2 10 3\n0 -\n");
+    back_p1(b"inner face first", b"0 - 1 3 00 1\n1 - 3 2 11 3\n");
+    back_p1(b"from dart 2", b"2 11 3 1 - 3\n0 - 1 3 00 1\n");
+    back_p1(b"dart 257", b"257 - 3 2 11 3\n0 - 1 3 00 1\n");
+    back_p1(b"words that disagree", b"1 - 3 2 1 3\n0 - 1 3 00 1\n");
+}
+
+// Back: 20, 21, 25, and never 24.
+fn counts_refused() {
+    back_p1(b"angles at post 0", b"1 - 4 2 11 3\n0 - 1 3 00 1\n");
+    back_p1(b"one bend", b"1 - 3 2 1 3\n0 - 1 3 0 1\n");
+    back(
+        b"P1, limits 2 1",
+        b"\x01\x00\x02\x00\x07\x02\x00\x01\x02\x03\x00\x04\x00\x01\x00\x01\x04\x00\x04\x00\x02\x01\x03\x05\x00\x01\x01\x07\x00\x02\x02\x01",
+        b"1 - 3 2 11 3\n0 - 1 3 00 1\n",
+    );
+    back(
+        b"P1, limits 1 0, no shape",
+        b"\x01\x00\x02\x00\x07\x02\x00\x01\x02\x03\x00\x04\x00\x01\x00\x01\x04\x00\x04\x00\x02\x01\x03\x05\x00\x01\x01\x07\x00\x02\x01\x00",
+        b"1 - 3 2 11 3\n0 - 1 3 00 1\n",
+    );
+}
+
+// Memory one byte short, and just enough, both ways; 31 before 16.
+fn text_memory() {
+    let mut short = [0xeeu8; 25];
+    text_into(
+        b"P1 in 25",
+        b"\x01\x00\x02\x00\x07\x02\x00\x01\x02\x03\x00\x04\x00\x01\x00\x01\x04\x00\x04\x00\x02\x01\x03\x05\x00\x01\x01",
+        b"\x11\x00\x02\x00\x07\x12\x00\x02\x00\x02\x13\x00\x04\x01\x03\x03\x01\x14\x00\x04\x00\x00\x00\x02",
+        &mut short,
+    );
+    let mut enough = [0xeeu8; 26];
+    text_into(
+        b"P1 in 26",
+        b"\x01\x00\x02\x00\x07\x02\x00\x01\x02\x03\x00\x04\x00\x01\x00\x01\x04\x00\x04\x00\x02\x01\x03\x05\x00\x01\x01",
+        b"\x11\x00\x02\x00\x07\x12\x00\x02\x00\x02\x13\x00\x04\x01\x03\x03\x01\x14\x00\x04\x00\x00\x00\x02",
+        &mut enough,
+    );
+    let mut none = [0xeeu8; 0];
+    text_into(
+        b"P1, strip 0 both ways, in 0",
+        b"\x01\x00\x02\x00\x07\x02\x00\x01\x02\x03\x00\x04\x00\x01\x00\x01\x04\x00\x04\x00\x02\x01\x03\x05\x00\x01\x01",
+        b"\x11\x00\x02\x00\x07\x12\x00\x02\x00\x04\x13\x00\x04\x01\x03\x03\x01\x14\x00\x04\x01\x01\x00\x02",
+        &mut none,
+    );
+    let mut less = [0xeeu8; 23];
+    back_into(
+        b"P1 in 23",
+        b"\x01\x00\x02\x00\x07\x02\x00\x01\x02\x03\x00\x04\x00\x01\x00\x01\x04\x00\x04\x00\x02\x01\x03\x05\x00\x01\x01",
+        b"1 - 3 2 11 3\n0 - 1 3 00 1\n",
+        &mut less,
+    );
+    let mut just = [0xeeu8; 24];
+    back_into(
+        b"P1 in 24",
+        b"\x01\x00\x02\x00\x07\x02\x00\x01\x02\x03\x00\x04\x00\x01\x00\x01\x04\x00\x04\x00\x02\x01\x03\x05\x00\x01\x01",
+        b"1 - 3 2 11 3\n0 - 1 3 00 1\n",
+        &mut just,
+    );
+}
+
 fn main() {
     first_plates();
     more_plates();
@@ -807,4 +1005,9 @@ fn main() {
     check_turns();
     bend_limits();
     check_limits();
+    texts();
+    texts_refused();
+    lines_refused();
+    counts_refused();
+    text_memory();
 }
