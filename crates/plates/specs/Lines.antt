@@ -11,11 +11,12 @@ use Rattle.plates.specs.Plates.{Plate, pick, isIn, distinct, darts, face
 use Rattle.plates.specs.Shapes.{rights, lefts, sameB, nthW}
 use Rattle.plates.specs.Text.{Entry, entry, textOf}
 
--- the smallest darts of the faces in the text's sequence
+-- a list without a number
 abbrev pub without : ℕ → List ℕ → List ℕ
 without x [] = []
 without x (y ∷ ys) = pick (eqb x y) (without x ys) (y ∷ without x ys)
 
+-- the smallest darts of the faces: of all but the outer one, and of all in the text's sequence
 abbrev pub others : Plate → List ℕ
 others p = without (lead p (p .outer)) (faces p)
 

@@ -120,6 +120,9 @@ pub record Called : Type 0 where
 pub record Face-lists : Type 0 where
   pub form : Exact
   pub by-faces : (s : List ℕ) → listFault s ≡ 0 → By-faces (plateOf s)
+  -- a sound file gets 31 exactly where its text would have a word with both digits
+  pub mixed-words : (s t : List ℕ) → checkFault s t ≡ 0
+      → let ws = shapeOf (plateOf s) (anglesIn t) (rightsIn t) .words in bothWays (rightsIn t) ≡ someMixed (faceEntries (plateOf s) (anglesIn t) ws)
   pub round-trips : RoundTrips
   pub called : Called
   pub short : Text-short
