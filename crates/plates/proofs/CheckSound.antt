@@ -56,11 +56,8 @@ module _ (s t : List ℕ) where
   refused-with zero n = absurd (n refl)
   refused-with (suc e) n = (refl, refl, refl, refl)
 
-  refused-check : (e : ℕ) → checkFault s t ≡ e → (e ≡ 0 → ⊥) → CheckSays s t (refusedVerdict e)
+  pub refused-check : (e : ℕ) → checkFault s t ≡ e → (e ≡ 0 → ⊥) → CheckSays s t (refusedVerdict e)
   refused-check e q n = subst (λ (k : ℕ). CheckWith k s t (refusedVerdict e)) (sym q) (refused-with e n)
-
-  pub counts-refused-check : (e : ℕ) → e ≡ checkFault s t → (e ≡ 0 → ⊥) → CheckSays s t (refusedVerdict e)
-  counts-refused-check e q n = refused-check e (sym q) n
 
   pub list-refused-check : (e : ℕ) → e ≡ listFault s → (e ≡ 0 → ⊥) → CheckSays s t (refusedVerdict e)
   list-refused-check e q n = refused-check e (places ∙ first-some (listFault s) _ (λ z. n (q ∙ z)) ∙ sym q) n

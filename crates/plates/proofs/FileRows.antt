@@ -84,13 +84,13 @@ module _ {s : List ℕ} {f : Fields} {a r : List ℕ} {total-n room : ℕ} (h : 
   gs = walkAll false s .fields
 
   long-is : length (fileBytes gs a r) ≡ fileLong s
-  long-is = omega (arith, bytes-long gs a r (list-fields s (h .walked .passed) .revision), h .angles-many, h .rights-many)
+  long-is = omega (arith, bytes-long gs a r (list-fields s (h .given .walked .passed) .revision), h .given .angles-many, h .given .rights-many)
 
   abbrev rows : List ℕ → List ℕ → List ℕ
   rows c b = field 17 c ++ (field 18 b ++ (field 19 a ++ (field 20 r ++ remarkPart gs)))
 
   rows-are : rows c b ≡ fileBytes gs a r
-  rows-are = ap (λ (l : List ℕ). rows l b) (revision-is (h .walked) c rev) ∙ ap (rows (contentOf 1 gs)) (sum ∙ ap two (h .sum))
+  rows-are = ap (λ (l : List ℕ). rows l b) (revision-is (h .given .walked) c rev) ∙ ap (rows (contentOf 1 gs)) (sum ∙ ap two (h .given .sum))
 
   pub file-written : {out o1 o2 o3 o4 o5 : List ℕ} {n1 n2 n3 n4 n5 : ℕ} → length out ≡ room
       → Written 0 (field 17 c) out o1 n1 → length o1 ≡ length out
@@ -100,7 +100,7 @@ module _ {s : List ℕ} {f : Fields} {a r : List ℕ} {total-n room : ℕ} (h : 
       → Written n4 (remarkPart gs) o4 o5 n5 → FileWritten s a r out o5 n5
   file-written {out} {o1} {o2} {o3} {o4} {o5} {n1} {n2} {n3} {n4} {n5} l w1 l1 w2 l2 w3 l3 w4 l4 w5 =
       let two-long : length b ≡ 2 = ap length sum in
-      let c-long : length c ≡ 2 = revision-two (h .walked) c rev in
+      let c-long : length c ≡ 2 = revision-two (h .given .walked) c rev in
       let e1 : n1 ≡ 5 = omega (arith, w1 .behind) in
       let e2 : n2 ≡ 10 = omega (arith, w2 .behind) in
       let e3 : n3 ≡ 13 + length a = omega (arith, w3 .behind) in
@@ -108,9 +108,9 @@ module _ {s : List ℕ} {f : Fields} {a r : List ℕ} {total-n room : ℕ} (h : 
       let room-is : fileLong s ≤ length out = omega (arith, h .enough) in
       let all : Written 0 (rows c b) out o5 n5 =
       written-then (omega arith) w1
-      (written-then (omega (arith, h .angles-many)) w2
-      (written-then (omega (arith, h .angles-many)) w3
-      (written-then (omega (arith, h .angles-many)) w4 w5))) in
+      (written-then (omega (arith, h .given .angles-many)) w2
+      (written-then (omega (arith, h .given .angles-many)) w3
+      (written-then (omega (arith, h .given .angles-many)) w4 w5))) in
       let done : Written 0 (fileBytes gs a r) out o5 n5 = subst (λ (x : List ℕ). Written 0 x out o5 n5) rows-are all in
       record {
         bytes = done .bytes ∙ put-front (fileBytes gs a r) out;

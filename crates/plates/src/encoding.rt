@@ -4,9 +4,9 @@ ghost use mathlib.Core.Bool.{false};
 ghost use lib.ListN.{length};
 ghost use Rattle.fields.specs.Writing.{Written};
 ghost use Rattle.plates.specs.Files.{walkAll, remarkPart};
-ghost use Rattle.plates.specs.Says.{remarkLong, fileLong, ShapeSays};
+ghost use Rattle.plates.specs.Says.{remarkLong, fileLong};
 ghost use Rattle.plates.specs.Read.{Walked};
-ghost use Rattle.plates.specs.Encodes.{ToWrite, FileWritten, RemarkRoom, BestGiven, refusedShape};
+ghost use Rattle.plates.specs.Encodes.{FileGiven, ToWrite, FileWritten, RemarkRoom, FileSays, refusedShape};
 use crate::Shaped;
 use fields::Fields;
 use fields::content;
@@ -84,8 +84,8 @@ pub fn refused_shape(number: u8) -> Shaped
     }
 }
 
-// Writes the file of the best shape of an accepted list, or refuses with 16.
-pub fn write_best(
+// Writes the file of counts, or refuses with 16.
+pub fn write_file(
     list: &[u8],
     f: Fields,
     angles: &[u8],
@@ -93,8 +93,8 @@ pub fn write_best(
     total: u32,
     out: &mut [u8],
 ) -> Shaped
-    requires { ⌜ BestGiven (now list) f (now angles) (now rights) total ⌝ }
-    ensures { λ r. ⌜ ShapeSays (now (list .entry)) (now (out .entry)) (now (out .exit)) r ⌝ }
+    requires { ⌜ FileGiven (now list) f (now angles) (now rights) total ⌝ }
+    ensures { λ r. ⌜ FileSays (now (list .entry)) (now (angles .entry)) (now (rights .entry)) (now (out .entry)) (now (out .exit)) r ⌝ }
 {
     let long = file_long(list, f);
     if out.len() < long {

@@ -13,7 +13,7 @@ use crate::checking::counts_fault;
 use crate::checking::refused_verdict;
 use crate::checking::sound_verdict;
 use crate::encoding::refused_shape;
-use crate::encoding::write_best;
+use crate::encoding::write_file;
 use crate::listing::list_best;
 use crate::listing::list_refused;
 use crate::reading::read_list;
@@ -77,7 +77,7 @@ pub fn write_shape(list: &[u8], out: &mut [u8]) -> Shaped
     let darts = plate.darts;
     let angles = shape.angles;
     let rights = shape.rights;
-    write_best(
+    write_file(
         list,
         fields,
         &angles[..darts],

@@ -7,7 +7,7 @@ use native.Mathlib.Omega.{arith}
 use lib.Dec.{ltb}
 use lib.ListN.{length, getD, take}
 use lib.Seq.{ext-getD, getD-take, length-take-le}
-use borrow.Author.Tests.{lt-ltb, le-ltb, not-false}
+use borrow.Author.Tests.{not-false}
 use Rattle.finite.proofs.Tests.{and-left, first-none, when-none, first-some, first-assoc}
 use Rattle.fields.specs.declared.Fields.{Fields}
 use Rattle.embedding.proofs.Degrees.{darts-few}
@@ -18,18 +18,17 @@ use Rattle.shapes.proofs.Words.{rights-at, rights-long}
 use Rattle.plates.specs.declared.Shaped.{Shaped}
 use Rattle.plates.specs.Plates.{Plate, pickT, firstOf, when, isIn, distinct, darts, faces}
 use Rattle.plates.specs.Shapes.{Shape, rights, rightsOf, total, postsOk, facesOk, twinsOkFrom, pairSums, allWithin, shapeOf}
-use Rattle.plates.specs.Files.{walkAll, listFault, plateOf, limitsOf, fileBytes}
+use Rattle.plates.specs.Files.{listFault, plateOf, limitsOf}
 use Rattle.plates.specs.Says.{over, fileLong}
 use Rattle.plates.specs.Read.{Walked}
-use Rattle.plates.specs.Encodes.{ToWrite, FileWritten, refusedShape}
-use Rattle.plates.proofs.FileRows.{darts-most, remark-most}
+use Rattle.plates.specs.Encodes.{FileGiven, FileSays, refusedShape}
 use Rattle.plates.specs.Text.{Entry, allFormed}
 use Rattle.plates.specs.Grammar.{formOk, entriesIn}
 use Rattle.plates.specs.Lines.{faceEntries, sequence, sameFaces, someMixed, wordOf, wordsBy, anglesBy, dartsOf}
 use Rattle.plates.specs.Texts.{wordsRead, placedFault, textFault, bytesRead, readFault, ReadWith, ReadSays}
 use Rattle.texts.specs.Plan.{laid, PlanHeld}
 use Rattle.texts.specs.Parses.{Tables, PlanArrays, entriesFault, twinCounts, ParsedBy}
-use Rattle.texts.specs.Reads.{countedFault, FileGiven, FileSays}
+use Rattle.texts.specs.Reads.{countedFault}
 use Rattle.texts.specs.declared.planning.Laid.{Laid}
 use Rattle.texts.specs.declared.parsing.Parsed.{Parsed}
 use Rattle.texts.proofs.Grammar.{exact}
@@ -228,7 +227,7 @@ module _ (s t : List ℕ) (acc : Accepted (plateOf s)) where
       n-fits : n ≤ 256
       n-fits = omega (arith, darts-few p₂ (faultless p₂ acc) (ordered p₂ acc))
 
-      pub file-given : {f : Fields} → Walked s f → FileGiven s f (take n ca) (take n cr)
+      pub file-given : {f : Fields} → Walked s f → FileGiven s f (take n ca) (take n cr) (total (take n cr))
       file-given w =
           let long-a = length-take-le n ca (omega (arith, tables .angles .size, n-fits)) in
           let long-r = length-take-le n cr (omega (arith, tables .rights .size, n-fits)) in
@@ -237,6 +236,7 @@ module _ (s t : List ℕ) (acc : Accepted (plateOf s)) where
             walked = w;
             angles-many = long-a ∙ n-is;
             rights-many = long-r ∙ n-is;
+            sum = refl;
             few = omega (
               arith,
               n-fits,
@@ -267,24 +267,3 @@ pub list-refused-read : (s t o : List ℕ) {e : ℕ} {v : Shaped} → e ≡ list
 list-refused-read s t o {e} {v} q n v-is =
     let f : readFault s t o ≡ e = ap (λ (k : ℕ). firstOf k (when (ltb (length o) (fileLong s)) 16)) (first-some (listFault s) (placedFault (plateOf s) (limitsOf s) t) (λ z. n (q ∙ z))) ∙ first-some (listFault s) _ (λ z. n (q ∙ z)) ∙ sym q in
     subst₂ (λ (k : ℕ) (w : Shaped). ReadWith k s t o o w) (sym f) (sym v-is) (refused-with s t o e n)
-
--- a file written, or 16
-module _ {s : List ℕ} {f : Fields} {a r : List ℕ} (g : FileGiven s f a r) (o : List ℕ) where
-  pub file-refused : {v : Shaped} → length o < fileLong s → v ≡ refusedShape 16 → FileSays s a r o o v
-  file-refused {v} l e =
-      subst (λ (w : Shaped). FileSays s a r o o w) (sym e)
-      (subst (λ (b : Bool). pickT b ((refusedShape 16 .number ≡ 16) × (refusedShape 16 .long ≡ 0) × (refusedShape 16 .bends ≡ 0) × (o ≡ o)) ((refusedShape 16 .number ≡ 0) × (refusedShape 16 .long ≡ length (fileBytes (walkAll false s .fields) a r)) × (refusedShape 16 .bends ≡ total r) × (o ≡ over (fileBytes (walkAll false s .fields) a r) o)))
-      (sym (lt-ltb (length o) (fileLong s) l)) (refl, refl, refl, refl))
-
-  pub to-write : (n room : ℕ) → n ≡ total r → fileLong s ≤ room → ToWrite s f a r n room
-  to-write n room e l = record { walked = g .walked; angles-many = g .angles-many; rights-many = g .rights-many; sum = e; few = omega (arith, g .few); enough = l }
-
-  pub file-few : fileLong s ≤ 611
-  file-few = omega (arith, darts-most (g .walked), remark-most (g .walked))
-
-  pub file-given-says : (o′ : List ℕ) (long n m : ℕ) → fileLong s ≤ length o → long ≡ fileLong s → n ≡ total r → FileWritten s a r o o′ m → FileSays s a r o o′ (record { number = 0; long = long; bends = n })
-  file-given-says o′ long n m l long-is n-is w =
-      let v : Shaped = record { number = 0; long = long; bends = n } in
-      let b = fileBytes (walkAll false s .fields) a r in
-      subst (λ (c : Bool). pickT c ((v .number ≡ 16) × (v .long ≡ 0) × (v .bends ≡ 0) × (o′ ≡ o)) ((v .number ≡ 0) × (v .long ≡ length b) × (v .bends ≡ total r) × (o′ ≡ over b o)))
-      (sym (le-ltb (length o) (fileLong s) l)) (refl, long-is ∙ sym (w .long) ∙ w .size, n-is, w .bytes)

@@ -3,8 +3,10 @@ ghost use mathlib.Core.Path.{_≡_};
 ghost use Rattle.embedding.specs.Plates.{Plate as PlateOf};
 ghost use Rattle.embedding.specs.Read.{Stands};
 ghost use Rattle.shapes.specs.Claims.{Accepted};
+ghost use Rattle.plates.specs.Shapes.{total};
+ghost use Rattle.plates.specs.Encodes.{FileGiven, FileSays};
 ghost use Rattle.plates.specs.Texts.{ReadSays};
-ghost use Rattle.texts.specs.Reads.{countedFault, ParsedFor, FileGiven, FileSays, ListGiven};
+ghost use Rattle.texts.specs.Reads.{countedFault, ParsedFor, ListGiven};
 use crate::parsing::Parsed;
 use crate::parsing::parse;
 use crate::parsing::twins_ok;
@@ -14,9 +16,8 @@ use fields::Fields;
 use fields::content;
 use plates::Shaped;
 use plates::checking::total_of;
-use plates::encoding::file_long;
 use plates::encoding::refused_shape;
-use plates::encoding::write_fields;
+use plates::encoding::write_file;
 use shapes::judge::judge;
 use shapes::rates::limits_ok;
 
@@ -43,21 +44,12 @@ fn counted_fault(plate: Plate, limits: &[u8], q: Parsed) -> u8
 }
 
 // Writes the shape file of counts, or refuses with 16.
-fn write_file(list: &[u8], f: Fields, angles: &[u8], rights: &[u8], out: &mut [u8]) -> Shaped
-    requires { ⌜ FileGiven (now list) f (now angles) (now rights) ⌝ }
+fn write_counts(list: &[u8], f: Fields, angles: &[u8], rights: &[u8], out: &mut [u8]) -> Shaped
+    requires { ⌜ FileGiven (now list) f (now angles) (now rights) (total (now rights)) ⌝ }
     ensures { λ r. ⌜ FileSays (now (list .entry)) (now (angles .entry)) (now (rights .entry)) (now (out .entry)) (now (out .exit)) r ⌝ }
 {
-    let long = file_long(list, f);
-    if out.len() < long {
-        return refused_shape(16);
-    }
-    let total = total_of(rights);
-    write_fields(list, f, angles, rights, total as usize, out);
-    Shaped {
-        number: 0,
-        long: long as u32,
-        bends: total,
-    }
+    let sum = total_of(rights);
+    write_file(list, f, angles, rights, sum, out)
 }
 
 // The text's refusal, or the shape file that it gives for an accepted list.
@@ -80,5 +72,5 @@ pub fn read_placed(list: &[u8], f: Fields, plate: Plate, text: &[u8], out: &mut 
     }
     let angles = q.angles;
     let rights = q.rights;
-    write_file(list, f, &angles[..darts], &rights[..darts], out)
+    write_counts(list, f, &angles[..darts], &rights[..darts], out)
 }

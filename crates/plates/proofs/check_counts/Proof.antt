@@ -4,7 +4,7 @@ use native.Mathlib.Omega.{arith}
 use Rattle.plates.specs.declared.Verdict.{Verdict}
 use Rattle.plates.specs.Files.{plateOf, limitsOf}
 use Rattle.plates.specs.Says.{CheckSays}
-use Rattle.plates.proofs.CheckSound.{counts-refused-check}
+use Rattle.plates.proofs.CheckSound.{refused-check}
 use Rattle.plates.proofs.Calls.{read-stands, angles-within, rights-within, angles-many, rights-many, compared}
 use borrow.Author.Needs.{needs}
 use Rattle.plates.proofs.check_counts.Statement.{statement}
@@ -17,7 +17,7 @@ refused-verdict-requires : tie.Need-refused-verdict-requires
 refused-verdict-requires c κs = search needs
 
 returns : tie.Need-returns
-returns c = let a = c .before .before .before .before .before .args in subst (λ (v : Verdict). CheckSays (a .list .now) (a .shape .now) v) (sym (c .refused-verdict .ensures)) (counts-refused-check (a .list .now) (a .shape .now) (c .before .before .counts-fault .result) (c .before .before .counts-fault .ensures) (c .before .if1 .taken))
+returns c = let a = c .before .before .before .before .before .args in subst (λ (v : Verdict). CheckSays (a .list .now) (a .shape .now) v) (sym (c .refused-verdict .ensures)) (refused-check (a .list .now) (a .shape .now) (c .before .before .counts-fault .result) (sym (c .before .before .counts-fault .ensures)) (c .before .if1 .taken))
 
 best-of-requires : tie.Need-best-of-requires
 best-of-requires c κs = search needs

@@ -5,7 +5,7 @@ use borrow.Author.Tests.{not-true, not-false}
 use Rattle.plates.specs.declared.Shaped.{Shaped}
 use Rattle.plates.specs.Files.{limitsOf}
 use Rattle.plates.specs.Says.{ShapeSays}
-use Rattle.plates.proofs.Shaping.{list-refused-says, none-says}
+use Rattle.plates.proofs.Shaping.{list-refused-says, none-says, best-file, best-says}
 use Rattle.plates.proofs.Calls.{no-fault, held, stands, given, none-given, angles-within, rights-within, angles-many, rights-many}
 use borrow.Author.Needs.{needs}
 use Rattle.plates.proofs.write_shape.Statement.{statement}
@@ -32,23 +32,23 @@ returns-2 c = subst (λ (r : Shaped). ShapeSays (c .before .before .before .befo
 array-share-prefix-angles : tie.Need-array-share-prefix-angles
 array-share-prefix-angles c = angles-within (limitsOf (c .before .before .before .before .before .before .before .before .before .before .before .before .before .args .list .now)) (c .before .before .before .before .before .best-of .result) (stands (c .before .before .before .before .before .before .before .before .before .before .read-list .ensures) (omega (arith, (c .before .before .before .before .before .before .before .before .if1 .left)))) (c .before .before .before .before .before .best-of .ensures)
 
-slice-aggregate-write-best : tie.Need-slice-aggregate-write-best
-slice-aggregate-write-best c = angles-many (limitsOf (c .before .before .before .before .before .before .before .before .before .before .before .before .before .before .args .list .now)) (c .before .before .before .before .before .before .best-of .result) (stands (c .before .before .before .before .before .before .before .before .before .before .before .read-list .ensures) (omega (arith, (c .before .before .before .before .before .before .before .before .before .if1 .left)))) (c .before .before .before .before .before .before .best-of .ensures)
+slice-aggregate-write-file : tie.Need-slice-aggregate-write-file
+slice-aggregate-write-file c = angles-many (limitsOf (c .before .before .before .before .before .before .before .before .before .before .before .before .before .before .args .list .now)) (c .before .before .before .before .before .before .best-of .result) (stands (c .before .before .before .before .before .before .before .before .before .before .before .read-list .ensures) (omega (arith, (c .before .before .before .before .before .before .before .before .before .if1 .left)))) (c .before .before .before .before .before .before .best-of .ensures)
 
 array-share-prefix-rights : tie.Need-array-share-prefix-rights
 array-share-prefix-rights c = rights-within (limitsOf (c .before .before .before .before .before .before .before .before .before .before .before .before .before .before .args .list .now)) (c .before .before .before .before .before .before .best-of .result) (stands (c .before .before .before .before .before .before .before .before .before .before .before .read-list .ensures) (omega (arith, (c .before .before .before .before .before .before .before .before .before .if1 .left)))) (c .before .before .before .before .before .before .best-of .ensures)
 
-slice-aggregate-write-best-2 : tie.Need-slice-aggregate-write-best-2
-slice-aggregate-write-best-2 c = rights-many (limitsOf (c .before .before .before .before .before .before .before .before .before .before .before .before .before .before .before .args .list .now)) (c .before .before .before .before .before .before .before .best-of .result) (stands (c .before .before .before .before .before .before .before .before .before .before .before .before .read-list .ensures) (omega (arith, (c .before .before .before .before .before .before .before .before .before .before .if1 .left)))) (c .before .before .before .before .before .before .before .best-of .ensures)
+slice-aggregate-write-file-2 : tie.Need-slice-aggregate-write-file-2
+slice-aggregate-write-file-2 c = rights-many (limitsOf (c .before .before .before .before .before .before .before .before .before .before .before .before .before .before .before .args .list .now)) (c .before .before .before .before .before .before .before .best-of .result) (stands (c .before .before .before .before .before .before .before .before .before .before .before .before .read-list .ensures) (omega (arith, (c .before .before .before .before .before .before .before .before .before .before .if1 .left)))) (c .before .before .before .before .before .before .before .best-of .ensures)
 
-write-best-requires : tie.Need-write-best-requires
-write-best-requires c κs = given (c .before .before .before .before .before .before .before .before .best-of .result) (c .before .before .before .before .before .before .before .before .before .before .before .before .before .read-list .ensures) (omega (arith, (c .before .before .before .before .before .before .before .before .before .before .before .if1 .left))) (c .before .before .before .before .before .before .before .before .best-of .ensures) (not-false (c .before .before .before .before .before .before .before .before .best-of .result .found) (c .before .before .before .before .before .before .if2 .left))
+write-file-requires : tie.Need-write-file-requires
+write-file-requires c κs = best-file (given (c .before .before .before .before .before .before .before .before .best-of .result) (c .before .before .before .before .before .before .before .before .before .before .before .before .before .read-list .ensures) (omega (arith, (c .before .before .before .before .before .before .before .before .before .before .before .if1 .left))) (c .before .before .before .before .before .before .before .before .best-of .ensures) (not-false (c .before .before .before .before .before .before .before .before .best-of .result .found) (c .before .before .before .before .before .before .if2 .left)))
 
 same-length : tie.Need-same-length
 same-length c = search needs
 
 returns-3 : tie.Need-returns-3
-returns-3 c = (c .before .before .write-best .ensures)
+returns-3 c = best-says (given (c .before .before .before .before .before .before .before .before .before .before .before .best-of .result) (c .before .before .before .before .before .before .before .before .before .before .before .before .before .before .before .before .read-list .ensures) (omega (arith, (c .before .before .before .before .before .before .before .before .before .before .before .before .before .before .if1 .left))) (c .before .before .before .before .before .before .before .before .before .before .before .best-of .ensures) (not-false (c .before .before .before .before .before .before .before .before .before .before .before .best-of .result .found) (c .before .before .before .before .before .before .before .before .before .if2 .left))) (c .before .before .before .before .before .before .before .before .before .before .before .before .before .before .before .before .before .before .before .args .out .now) _ _ (c .before .before .write-file .ensures)
 
 pub write-shape-spec : {M : Type 1} → statement M
 write-shape-spec =
@@ -61,9 +61,9 @@ write-shape-spec =
     refused-shape-requires-2
     returns-2
     array-share-prefix-angles
-    slice-aggregate-write-best
+    slice-aggregate-write-file
     array-share-prefix-rights
-    slice-aggregate-write-best-2
-    write-best-requires
+    slice-aggregate-write-file-2
+    write-file-requires
     same-length
     returns-3)

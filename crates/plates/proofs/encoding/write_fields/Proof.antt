@@ -9,46 +9,46 @@ use Rattle.plates.proofs.encoding.write_fields.Statement.{statement}
 use Rattle.plates.proofs.encoding.write_fields.Tie as tie
 
 content-requires : tie.Need-content-requires
-content-requires c κs = (omega arith, walked-within (c .before .before .before .before .pre .walked))
+content-requires c κs = (omega arith, walked-within (c .before .before .before .before .pre .given .walked))
 
 two-bytes-requires : tie.Need-two-bytes-requires
 two-bytes-requires c κs = search needs
 
 write-field-requires : tie.Need-write-field-requires
-write-field-requires c κs = let two = revision-two (c .before .before .before .before .before .before .before .pre .walked) _ (c .before .before .content .ensures) in (omega (arith, c .before .before .before .before .before .before .before .pre .enough), omega arith)
+write-field-requires c κs = let two = revision-two (c .before .before .before .before .before .before .before .pre .given .walked) _ (c .before .before .content .ensures) in (omega (arith, c .before .before .before .before .before .before .before .pre .enough), omega arith)
 
 slice-aggregate-write-field : tie.Need-slice-aggregate-write-field
 slice-aggregate-write-field c = search needs
 
 write-field-requires-2 : tie.Need-write-field-requires-2
 write-field-requires-2 c κs =
-    let two = revision-two (c .before .before .before .before .before .before .before .before .before .before .before .before .pre .walked) _ (c .before .before .before .before .before .before .before .content .ensures) in
+    let two = revision-two (c .before .before .before .before .before .before .before .before .before .before .before .before .pre .given .walked) _ (c .before .before .before .before .before .before .before .content .ensures) in
     let sum = ap length (c .before .before .before .before .before .before .two-bytes .ensures) in
     (omega (arith, c .before .before .before .before .before .before .before .before .before .before .before .before .pre .enough, c .before .before .before .before .write-field .ensures .behind, c .before .before .before .before .write-field .kept .0), omega arith)
 
 write-field-requires-3 : tie.Need-write-field-requires-3
 write-field-requires-3 c κs =
-    let two = revision-two (c .before .before .before .before .before .before .before .before .before .before .before .before .before .before .before .before .pre .walked) _ (c .before .before .before .before .before .before .before .before .before .before .before .content .ensures) in
+    let two = revision-two (c .before .before .before .before .before .before .before .before .before .before .before .before .before .before .before .before .pre .given .walked) _ (c .before .before .before .before .before .before .before .before .before .before .before .content .ensures) in
     let sum = ap length (c .before .before .before .before .before .before .before .before .before .before .two-bytes .ensures) in (
-      omega (arith, c .before .before .before .before .before .before .before .before .before .before .before .before .before .before .before .before .pre .enough, c .before .before .before .before .before .before .before .before .before .before .before .before .before .before .before .before .pre .angles-many, c .before .before .before .before .before .before .before .before .write-field .ensures .behind, c .before .before .before .before .before .before .before .before .write-field .kept .0, c .before .before .before .write-field2 .ensures .behind, c .before .before .before .write-field2 .kept .0),
-      omega (arith, c .before .before .before .before .before .before .before .before .before .before .before .before .before .before .before .before .pre .angles-many, darts-most (c .before .before .before .before .before .before .before .before .before .before .before .before .before .before .before .before .pre .walked)),
+      omega (arith, c .before .before .before .before .before .before .before .before .before .before .before .before .before .before .before .before .pre .enough, c .before .before .before .before .before .before .before .before .before .before .before .before .before .before .before .before .pre .given .angles-many, c .before .before .before .before .before .before .before .before .write-field .ensures .behind, c .before .before .before .before .before .before .before .before .write-field .kept .0, c .before .before .before .write-field2 .ensures .behind, c .before .before .before .write-field2 .kept .0),
+      omega (arith, c .before .before .before .before .before .before .before .before .before .before .before .before .before .before .before .before .pre .given .angles-many, darts-most (c .before .before .before .before .before .before .before .before .before .before .before .before .before .before .before .before .pre .given .walked)),
     )
 
 write-field-requires-4 : tie.Need-write-field-requires-4
 write-field-requires-4 c κs =
-    let two = revision-two (c .before .before .before .before .before .before .before .before .before .before .before .before .before .before .before .before .before .before .before .before .pre .walked) _ (c .before .before .before .before .before .before .before .before .before .before .before .before .before .before .before .content .ensures) in
+    let two = revision-two (c .before .before .before .before .before .before .before .before .before .before .before .before .before .before .before .before .before .before .before .before .pre .given .walked) _ (c .before .before .before .before .before .before .before .before .before .before .before .before .before .before .before .content .ensures) in
     let sum = ap length (c .before .before .before .before .before .before .before .before .before .before .before .before .before .before .two-bytes .ensures) in (
-      omega (arith, c .before .before .before .before .before .before .before .before .before .before .before .before .before .before .before .before .before .before .before .before .pre .enough, c .before .before .before .before .before .before .before .before .before .before .before .before .before .before .before .before .before .before .before .before .pre .angles-many, c .before .before .before .before .before .before .before .before .before .before .before .before .before .before .before .before .before .before .before .before .pre .rights-many, c .before .before .before .before .before .before .before .before .before .before .before .before .write-field .ensures .behind, c .before .before .before .before .before .before .before .before .before .before .before .before .write-field .kept .0, c .before .before .before .before .before .before .before .write-field2 .ensures .behind, c .before .before .before .before .before .before .before .write-field2 .kept .0, c .before .before .before .write-field3 .ensures .behind, c .before .before .before .write-field3 .kept .0),
-      omega (arith, c .before .before .before .before .before .before .before .before .before .before .before .before .before .before .before .before .before .before .before .before .pre .rights-many, darts-most (c .before .before .before .before .before .before .before .before .before .before .before .before .before .before .before .before .before .before .before .before .pre .walked)),
+      omega (arith, c .before .before .before .before .before .before .before .before .before .before .before .before .before .before .before .before .before .before .before .before .pre .enough, c .before .before .before .before .before .before .before .before .before .before .before .before .before .before .before .before .before .before .before .before .pre .given .angles-many, c .before .before .before .before .before .before .before .before .before .before .before .before .before .before .before .before .before .before .before .before .pre .given .rights-many, c .before .before .before .before .before .before .before .before .before .before .before .before .write-field .ensures .behind, c .before .before .before .before .before .before .before .before .before .before .before .before .write-field .kept .0, c .before .before .before .before .before .before .before .write-field2 .ensures .behind, c .before .before .before .before .before .before .before .write-field2 .kept .0, c .before .before .before .write-field3 .ensures .behind, c .before .before .before .write-field3 .kept .0),
+      omega (arith, c .before .before .before .before .before .before .before .before .before .before .before .before .before .before .before .before .before .before .before .before .pre .given .rights-many, darts-most (c .before .before .before .before .before .before .before .before .before .before .before .before .before .before .before .before .before .before .before .before .pre .given .walked)),
     )
 
 write-remark-requires : tie.Need-write-remark-requires
 write-remark-requires c κs =
-    let two = revision-two (c .before .before .before .before .before .before .before .before .before .before .before .before .before .before .before .before .before .before .before .before .before .before .before .before .pre .walked) _ (c .before .before .before .before .before .before .before .before .before .before .before .before .before .before .before .before .before .before .before .content .ensures) in
+    let two = revision-two (c .before .before .before .before .before .before .before .before .before .before .before .before .before .before .before .before .before .before .before .before .before .before .before .before .pre .given .walked) _ (c .before .before .before .before .before .before .before .before .before .before .before .before .before .before .before .before .before .before .before .content .ensures) in
     let sum = ap length (c .before .before .before .before .before .before .before .before .before .before .before .before .before .before .before .before .before .before .two-bytes .ensures) in
     record {
-      walked = c .before .before .before .before .before .before .before .before .before .before .before .before .before .before .before .before .before .before .before .before .before .before .before .before .pre .walked;
-      enough = omega (arith, c .before .before .before .before .before .before .before .before .before .before .before .before .before .before .before .before .before .before .before .before .before .before .before .before .pre .enough, c .before .before .before .before .before .before .before .before .before .before .before .before .before .before .before .before .before .before .before .before .before .before .before .before .pre .angles-many, c .before .before .before .before .before .before .before .before .before .before .before .before .before .before .before .before .before .before .before .before .before .before .before .before .pre .rights-many, c .before .before .before .before .before .before .before .before .before .before .before .before .before .before .before .before .write-field .ensures .behind, c .before .before .before .before .before .before .before .before .before .before .before .before .before .before .before .before .write-field .kept .0, c .before .before .before .before .before .before .before .before .before .before .before .write-field2 .ensures .behind, c .before .before .before .before .before .before .before .before .before .before .before .write-field2 .kept .0, c .before .before .before .before .before .before .before .write-field3 .ensures .behind, c .before .before .before .before .before .before .before .write-field3 .kept .0, c .before .before .before .write-field4 .ensures .behind, c .before .before .before .write-field4 .kept .0);
+      walked = c .before .before .before .before .before .before .before .before .before .before .before .before .before .before .before .before .before .before .before .before .before .before .before .before .pre .given .walked;
+      enough = omega (arith, c .before .before .before .before .before .before .before .before .before .before .before .before .before .before .before .before .before .before .before .before .before .before .before .before .pre .enough, c .before .before .before .before .before .before .before .before .before .before .before .before .before .before .before .before .before .before .before .before .before .before .before .before .pre .given .angles-many, c .before .before .before .before .before .before .before .before .before .before .before .before .before .before .before .before .before .before .before .before .before .before .before .before .pre .given .rights-many, c .before .before .before .before .before .before .before .before .before .before .before .before .before .before .before .before .write-field .ensures .behind, c .before .before .before .before .before .before .before .before .before .before .before .before .before .before .before .before .write-field .kept .0, c .before .before .before .before .before .before .before .before .before .before .before .write-field2 .ensures .behind, c .before .before .before .before .before .before .before .before .before .before .before .write-field2 .kept .0, c .before .before .before .before .before .before .before .write-field3 .ensures .behind, c .before .before .before .before .before .before .before .write-field3 .kept .0, c .before .before .before .write-field4 .ensures .behind, c .before .before .before .write-field4 .kept .0);
     }
 
 same-length : tie.Need-same-length

@@ -71,8 +71,8 @@ array-share-prefix-angles c =
     let most = few (g .stands) (g .accepted) in
     omega (arith, g .stands .dart-count, most, tables .angles .size)
 
-slice-aggregate-write-file : tie.Need-slice-aggregate-write-file
-slice-aggregate-write-file c =
+slice-aggregate-write-counts : tie.Need-slice-aggregate-write-counts
+slice-aggregate-write-counts c =
     let s = c .before .before .before .before .before .before .before .before .before .before .before .before .before .before .before .before .before .args .list .now in
     let g = c .before .before .before .before .before .before .before .before .before .before .before .before .before .before .before .before .before .pre in
     let q = c .before .before .before .before .before .before .before .before .parse in
@@ -89,8 +89,8 @@ array-share-prefix-rights c =
     let most = few (g .stands) (g .accepted) in
     omega (arith, g .stands .dart-count, most, tables .rights .size)
 
-slice-aggregate-write-file-2 : tie.Need-slice-aggregate-write-file-2
-slice-aggregate-write-file-2 c =
+slice-aggregate-write-counts-2 : tie.Need-slice-aggregate-write-counts-2
+slice-aggregate-write-counts-2 c =
     let s = c .before .before .before .before .before .before .before .before .before .before .before .before .before .before .before .before .before .before .args .list .now in
     let g = c .before .before .before .before .before .before .before .before .before .before .before .before .before .before .before .before .before .before .pre in
     let q = c .before .before .before .before .before .before .before .before .before .parse in
@@ -98,8 +98,8 @@ slice-aggregate-write-file-2 c =
     let most = few (g .stands) (g .accepted) in
     sym (length-take-le (c .before .before .before .before .before .before .before .before .before .before .before .before .before .before .before .before .before .before .args .plate .darts) (q .result .rights) (omega (arith, g .stands .dart-count, most, tables .rights .size)))
 
-write-file-requires : tie.Need-write-file-requires
-write-file-requires c κs =
+write-counts-requires : tie.Need-write-counts-requires
+write-counts-requires c κs =
     let s = c .before .before .before .before .before .before .before .before .before .before .before .before .before .before .before .before .before .before .before .args .list .now in
     let g = c .before .before .before .before .before .before .before .before .before .before .before .before .before .before .before .before .before .before .before .pre in
     let plan = c .before .before .before .before .before .before .before .before .before .before .before .before .before .before .before .plan-of .ensures (plateOf s) (g .stands) (g .accepted) in
@@ -123,7 +123,7 @@ returns-3 c =
     let tables = q .ensures .tables none in
     let limits = c .before .before .before .before .before .before .before .before .before .before .content .ensures ∙ walked-content (g .walked) 6 (lit< tt) in
     let counted = c .before .before .before .before .before .before .before .before .before .counted-fault .ensures (plateOf s) (g .stands) (g .accepted) in
-    file-read s (c .before .before .before .before .before .before .before .before .before .before .before .before .before .before .before .before .before .before .before .before .before .before .args .text .now) (g .accepted) (g .no-fault) (sym fault ∙ none) (g .stands .dart-count) tables (c .before .before .before .before .before .before .before .before .before .before .before .before .before .before .before .before .before .before .before .before .before .before .args .out .now) _ _ limits (sym counted ∙ omega (arith, c .before .before .before .before .before .before .before .before .if2 .left)) (c .before .before .write-file .ensures)
+    file-read s (c .before .before .before .before .before .before .before .before .before .before .before .before .before .before .before .before .before .before .before .before .before .before .args .text .now) (g .accepted) (g .no-fault) (sym fault ∙ none) (g .stands .dart-count) tables (c .before .before .before .before .before .before .before .before .before .before .before .before .before .before .before .before .before .before .before .before .before .before .args .out .now) _ _ limits (sym counted ∙ omega (arith, c .before .before .before .before .before .before .before .before .if2 .left)) (c .before .before .write-counts .ensures)
 
 pub read-placed-spec : {M : Type 1} → statement M
 read-placed-spec =
@@ -138,9 +138,9 @@ read-placed-spec =
     refused-shape-requires-2
     returns-2
     array-share-prefix-angles
-    slice-aggregate-write-file
+    slice-aggregate-write-counts
     array-share-prefix-rights
-    slice-aggregate-write-file-2
-    write-file-requires
+    slice-aggregate-write-counts-2
+    write-counts-requires
     same-length
     returns-3)

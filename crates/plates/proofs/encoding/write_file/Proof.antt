@@ -1,21 +1,18 @@
--- `plates::encoding::write_best` measures, then writes or refuses. Assumes nothing.
-use mathlib.Core.Path.{subst, sym}
+-- `plates::encoding::write_file` measures, then writes or refuses. Assumes nothing.
 use native.Mathlib.Omega.{arith}
-use Rattle.plates.specs.declared.Shaped.{Shaped}
-use Rattle.plates.specs.Says.{ShapeSays}
 use Rattle.plates.proofs.Shaping.{short-says, to-write, file-short, written-says}
 use borrow.Author.Needs.{needs}
-use Rattle.plates.proofs.encoding.write_best.Statement.{statement}
-use Rattle.plates.proofs.encoding.write_best.Tie as tie
+use Rattle.plates.proofs.encoding.write_file.Statement.{statement}
+use Rattle.plates.proofs.encoding.write_file.Tie as tie
 
 file-long-requires : tie.Need-file-long-requires
-file-long-requires c κs = search needs
+file-long-requires c κs = c .before .before .before .before .pre .walked
 
 refused-shape-requires : tie.Need-refused-shape-requires
 refused-shape-requires c κs = search needs
 
 returns : tie.Need-returns
-returns c = subst (λ (r : Shaped). ShapeSays (c .before .before .before .before .before .before .before .args .list .now) (c .before .before .before .before .before .before .before .args .out .now) (c .before .before .before .before .before .before .before .args .out .now) r) (sym (c .refused-shape .ensures)) (short-says (c .before .before .before .before .before .before .before .pre) (c .before .before .before .before .before .before .before .args .out .now) (omega (arith, c .before .before .file-long .ensures, c .before .if1 .taken)))
+returns c = short-says (c .before .before .before .before .before .before .before .pre) (c .before .before .before .before .before .before .before .args .out .now) (omega (arith, c .before .before .file-long .ensures, c .before .if1 .taken)) (c .refused-shape .ensures)
 
 write-fields-requires : tie.Need-write-fields-requires
 write-fields-requires c κs = to-write (c .before .before .before .before .before .before .before .pre) _ (omega (arith, c .before .before .file-long .ensures, c .before .if1 .left))
@@ -30,8 +27,8 @@ returns-2 : tie.Need-returns-2
 returns-2 c =
     written-says (c .before .before .before .before .before .before .before .before .before .before .pre) (c .before .before .before .before .before .before .before .before .before .before .args .out .now) _ _ _ (omega (arith, c .before .before .before .before .before .file-long .ensures, c .before .before .before .before .if1 .left)) (c .before .before .before .before .before .file-long .ensures) (c .before .before .write-fields .ensures)
 
-pub write-best-spec : {M : Type 1} → statement M
-write-best-spec =
+pub write-file-spec : {M : Type 1} → statement M
+write-file-spec =
     tie.close
     (tie.spec
     file-long-requires
