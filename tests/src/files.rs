@@ -246,6 +246,11 @@ pub fn shape_bytes(list: &List, shape: &Shape) -> Vec<u8> {
     file
 }
 
+/// The file of a shape, with revision and remark of an accepted list.
+pub fn file_of(list: &[u8], shape: &Shape) -> Vec<u8> {
+    shape_bytes(&read_list(list).expect("the list is accepted"), shape)
+}
+
 /// The shape file to be written for a plate list, with its total bends: 1 to
 /// 15, 23 and 29, then 24.
 pub fn shape_of(file: &[u8], best: Solver) -> Result<(Vec<u8>, u32), u8> {

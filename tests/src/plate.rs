@@ -23,6 +23,13 @@ pub struct Shape {
 }
 
 impl Shape {
+    pub fn new(rights: &[u32], angles: &[u32]) -> Shape {
+        Shape {
+            rights: rights.to_vec(),
+            angles: angles.to_vec(),
+        }
+    }
+
     pub fn bends(&self) -> u32 {
         self.rights.iter().sum()
     }
@@ -52,6 +59,11 @@ pub fn by_number(posts: usize, strips: &[[usize; 2]], outer: usize) -> Plate {
         outer,
         limits: Vec::new(),
     }
+}
+
+/// P1 of document 01: two strips between two posts.
+pub fn p1() -> Plate {
+    by_number(2, &[[0, 1], [0, 1]], 1)
 }
 
 impl Plate {

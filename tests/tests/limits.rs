@@ -5,16 +5,11 @@ use plates::{check_shape, write_listing, write_shape, Refusal, Verdict};
 use plates_tests::cancelling;
 use plates_tests::compare;
 use plates_tests::damage::refused_lists;
-use plates_tests::files::{list_bytes, read_list, shape_bytes, with_limits};
-use plates_tests::plate::{by_number, Plate, Shape};
+use plates_tests::files::{file_of, list_bytes, read_list, shape_bytes, with_limits};
+use plates_tests::plate::{by_number, p1, Plate, Shape};
 use plates_tests::random::{double_ring, looped_ring, Random};
 use plates_tests::remembered::cancel_once;
 use plates_tests::search;
-
-/// P1 of document 01: two strips between two posts.
-fn p1() -> Plate {
-    by_number(2, &[[0, 1], [0, 1]], 1)
-}
 
 /// The number of shaping, the same for all lengths of lent memory.
 fn refused(list: &[u8]) -> u8 {
@@ -36,11 +31,8 @@ fn judged(list: &[u8], shape: &[u8]) -> u8 {
 /// The plate has this best shape within these limits, and it is judged so.
 fn written(plate: &Plate, limits: &[u8], rights: &[u32], angles: &[u32]) {
     let list = list_bytes(&plate.within(limits), 7, None);
-    let shape = Shape {
-        rights: rights.to_vec(),
-        angles: angles.to_vec(),
-    };
-    let file = shape_bytes(&read_list(&list).expect("the plate is accepted"), &shape);
+    let shape = Shape::new(rights, angles);
+    let file = file_of(&list, &shape);
     let mut out = [0; plates::LONGEST_SHAPE];
     let written = write_shape(&list, &mut out).expect("some shape keeps the limits");
     assert_eq!(compare::hex(&out[..written.length]), compare::hex(&file));

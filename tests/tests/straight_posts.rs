@@ -2,7 +2,7 @@
 
 use plates::{check_shape, write_shape, Verdict};
 use plates_tests::compare;
-use plates_tests::files::{list_bytes, read_list, shape_bytes};
+use plates_tests::files::{file_of, list_bytes};
 use plates_tests::plate::{by_number, Plate, Shape};
 
 /// The list of a plate, and a shape without bends as a file.
@@ -12,7 +12,7 @@ fn files(plate: &Plate, angles: Vec<u32>) -> (Vec<u8>, Vec<u8>) {
         rights: vec![0; plate.darts()],
         angles,
     };
-    let file = shape_bytes(&read_list(&list).expect("the plate is accepted"), &shape);
+    let file = file_of(&list, &shape);
     (list, file)
 }
 

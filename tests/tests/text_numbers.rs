@@ -3,10 +3,10 @@
 
 use plates_tests::compare;
 use plates_tests::damage::refused_lists;
-use plates_tests::files::{list_bytes, read_list, shape_bytes, with_limits};
+use plates_tests::files::{file_of, list_bytes, with_limits};
 use plates_tests::long_mode;
 use plates_tests::near::Near;
-use plates_tests::plate::{by_number, twin, Plate, Shape};
+use plates_tests::plate::{p1, twin, Plate, Shape};
 use plates_tests::random::{any_plate, Random};
 use plates_tests::remembered::cancel_once;
 use plates_tests::round_trip::Met;
@@ -22,27 +22,10 @@ const OF_FILES: [u8; 14] = [1, 2, 3, 29, 4, 5, 6, 17, 18, 19, 20, 21, 22, 25];
 /// The numbers of a text, in their order.
 const OF_TEXTS: [u8; 6] = [30, 31, 32, 20, 21, 25];
 
-fn shape(rights: &[u32], angles: &[u32]) -> Shape {
-    Shape {
-        rights: rights.to_vec(),
-        angles: angles.to_vec(),
-    }
-}
-
-/// The file of a shape, with revision and remark of the list.
-fn file_of(list: &[u8], shape: &Shape) -> Vec<u8> {
-    shape_bytes(&read_list(list).expect("the list is accepted"), shape)
-}
-
-/// P1 of document 01: two strips between two posts.
-fn p1() -> Plate {
-    by_number(2, &[[0, 1], [0, 1]], 1)
-}
-
 /// The list and the file of P1 of the tests below: strip 1 may have two bends.
 fn p1_files() -> (Vec<u8>, Vec<u8>) {
     let list = list_bytes(&p1().within(&[255, 2]), 7, None);
-    let file = file_of(&list, &shape(&[0, 0, 0, 2], &[1, 3, 3, 1]));
+    let file = file_of(&list, &Shape::new(&[0, 0, 0, 2], &[1, 3, 3, 1]));
     (list, file)
 }
 
@@ -57,7 +40,7 @@ fn p1_refused() -> Vec<(u8, Vec<u8>)> {
             .for_each(|&(place, byte)| changed[place] = byte);
         changed
     };
-    let shaped = |rights| file_of(&list, &shape(rights, &[1, 3, 3, 1]));
+    let shaped = |rights| file_of(&list, &Shape::new(rights, &[1, 3, 3, 1]));
     vec![
         (0, file.clone()),
         (1, [&file[..], &[0x15]].concat()),
@@ -128,7 +111,7 @@ fn every_number() {
 #[test]
 fn both_ways_after_the_check() {
     let (list, _) = p1_files();
-    let mut mixed = file_of(&list, &shape(&[1, 1, 0, 2], &[1, 3, 3, 1]));
+    let mut mixed = file_of(&list, &Shape::new(&[1, 1, 0, 2], &[1, 3, 3, 1]));
     let mut met = Met::default();
     assert_eq!(met.file(&list, &mixed), 31);
     assert_eq!(met.file(&list, &mixed[..mixed.len() - 1]), 5);

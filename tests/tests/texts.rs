@@ -2,32 +2,15 @@
 //! digits, large numbers, lines not of the form.
 
 use plates_tests::compare;
-use plates_tests::files::{list_bytes, read_list, shape_bytes, with_limits};
+use plates_tests::files::{file_of, list_bytes, with_limits};
 use plates_tests::long_mode;
-use plates_tests::plate::{by_number, Plate, Shape};
+use plates_tests::plate::{by_number, p1, Plate, Shape};
 use plates_tests::round_trip::Met;
 use plates_tests::texts::text_of;
-
-fn shape(rights: &[u32], angles: &[u32]) -> Shape {
-    Shape {
-        rights: rights.to_vec(),
-        angles: angles.to_vec(),
-    }
-}
-
-/// The file of a shape, with revision and remark of the list.
-fn file_of(list: &[u8], shape: &Shape) -> Vec<u8> {
-    shape_bytes(&read_list(list).expect("the list is accepted"), shape)
-}
 
 /// The number of a text.
 fn read(list: &[u8], text: &str) -> u8 {
     Met::default().text(list, text.as_bytes())
-}
-
-/// P1 of document 01: two strips between two posts.
-fn p1() -> Plate {
-    by_number(2, &[[0, 1], [0, 1]], 1)
 }
 
 /// P3 of document 01, a square.
@@ -58,36 +41,38 @@ fn plates_to_try() {
         by_number(posts, ends, outer)
     };
     let p1_text = "1 - 3 2 11 3\n0 - 1 3 00 1\n";
-    stands(&p1(), &shape(&[0, 0, 0, 2], &[1, 3, 3, 1]), p1_text);
+    stands(&p1(), &Shape::new(&[0, 0, 0, 2], &[1, 3, 3, 1]), p1_text);
     let p2 = by_ends(&[[0, 1], [1, 2], [2, 0]], 1);
     let p2_text = "1 - 3 5 1 3 3 - 3\n0 - 1 2 - 1 4 0 1\n";
-    let p2_shape = shape(&[0, 0, 0, 0, 1, 0], &[1, 3, 1, 3, 1, 3]);
+    let p2_shape = Shape::new(&[0, 0, 0, 0, 1, 0], &[1, 3, 1, 3, 1, 3]);
     stands(&p2, &p2_shape, p2_text);
     let p3_text = "1 - 3 7 - 3 5 - 3 3 - 3\n0 - 1 2 - 1 4 - 1 6 - 1\n";
-    let p3_shape = shape(&[0; 8], &[1, 3, 1, 3, 1, 3, 1, 3]);
+    let p3_shape = Shape::new(&[0; 8], &[1, 3, 1, 3, 1, 3, 1, 3]);
     stands(&p3(), &p3_shape, p3_text);
-    stands(&p4(), &shape(&[0, 0], &[4, 4]), "0 - 4 1 - 4\n");
+    stands(&p4(), &Shape::new(&[0, 0], &[4, 4]), "0 - 4 1 - 4\n");
     let p5 = by_ends(&[[0, 1], [0, 2], [0, 3], [0, 4]], 1);
     let p5_text = "0 - 4 1 - 1 6 - 4 7 - 1 4 - 4 5 - 1 2 - 4 3 - 1\n";
-    stands(&p5, &shape(&[0; 8], &[4, 1, 4, 1, 4, 1, 4, 1]), p5_text);
+    let p5_shape = Shape::new(&[0; 8], &[4, 1, 4, 1, 4, 1, 4, 1]);
+    stands(&p5, &p5_shape, p5_text);
     let p6 = by_ends(&[[0, 1], [1, 2]], 1);
     let p6_text = "0 - 2 2 - 4 3 - 2 1 - 4\n";
-    stands(&p6, &shape(&[0; 4], &[2, 4, 4, 2]), p6_text);
+    stands(&p6, &Shape::new(&[0; 4], &[2, 4, 4, 2]), p6_text);
     let mut p7 = by_ends(&[[0, 1]; 3], 1);
     p7.order[1] = vec![5, 3, 1];
     let p7_text = "1 11 2 4 11 2\n0 00 1 3 - 1\n2 - 1 5 00 1\n";
-    let p7_shape = shape(&[2, 0, 0, 0, 0, 2], &[1, 2, 1, 1, 2, 1]);
+    let p7_shape = Shape::new(&[2, 0, 0, 0, 0, 2], &[1, 2, 1, 1, 2, 1]);
     stands(&p7, &p7_shape, p7_text);
     let to_itself = by_ends(&[[0, 0]], 1);
-    stands(&to_itself, &shape(&[3, 0], &[1, 3]), "1 111 3\n0 000 1\n");
+    let loop_text = "1 111 3\n0 000 1\n";
+    stands(&to_itself, &Shape::new(&[3, 0], &[1, 3]), loop_text);
 }
 
 /// A square with as many bends to one side on strip 0 as to the other on strip
 /// 1, and one strip with so many bends.
 fn long_words(digits: u32) -> [(Plate, Shape); 2] {
     let rights = [digits, 0, 0, digits, 0, 0, 0, 0];
-    let square = shape(&rights, &[1, 3, 1, 3, 1, 3, 1, 3]);
-    [(p3(), square), (p4(), shape(&[0, digits], &[4, 4]))]
+    let square = Shape::new(&rights, &[1, 3, 1, 3, 1, 3, 1, 3]);
+    [(p3(), square), (p4(), Shape::new(&[0, digits], &[4, 4]))]
 }
 
 /// Words of up to 255 digits go to text and back. Longer ones are 30 though all
