@@ -111,22 +111,20 @@ pub struct Verdict {
 /// assert_eq!(none, Err(Refusal::NoShapeWithin));
 /// ```
 pub fn write_shape(list: &[u8], out: &mut [u8]) -> Result<Shape, Refusal> {
-    let mut length = 0;
-    let mut bends = 0;
-    // SAFETY: each pointer comes from a reference or a slice, with the slice's
-    // own length, and `out` and the two numbers overlap nothing.
-    let number = unsafe {
-        calls::plates_write_shape(
-            list.as_ptr(),
-            list.len(),
-            out.as_mut_ptr(),
-            out.len(),
-            &mut length,
-            &mut bends,
-        )
-    };
-    let length = length as usize;
-    accepted(number).map(|()| Shape { length, bends })
+    shape_by(|length, bends| {
+        // SAFETY: each pointer comes from a reference or a slice, with the slice's
+        // own length, and `out` and the two numbers overlap nothing.
+        unsafe {
+            calls::plates_write_shape(
+                list.as_ptr(),
+                list.len(),
+                out.as_mut_ptr(),
+                out.len(),
+                length,
+                bends,
+            )
+        }
+    })
 }
 
 /// Gives a verdict on a shape file against a plate list.
@@ -321,24 +319,22 @@ pub fn write_text(list: &[u8], shape: &[u8], out: &mut [u8]) -> Result<usize, Re
 /// );
 /// ```
 pub fn read_text(list: &[u8], text: &[u8], out: &mut [u8]) -> Result<Shape, Refusal> {
-    let mut length = 0;
-    let mut bends = 0;
-    // SAFETY: each pointer comes from a reference or a slice, with the slice's
-    // own length, and `out` and the two numbers overlap nothing.
-    let number = unsafe {
-        calls::plates_read_text(
-            list.as_ptr(),
-            list.len(),
-            text.as_ptr(),
-            text.len(),
-            out.as_mut_ptr(),
-            out.len(),
-            &mut length,
-            &mut bends,
-        )
-    };
-    let length = length as usize;
-    accepted(number).map(|()| Shape { length, bends })
+    shape_by(|length, bends| {
+        // SAFETY: each pointer comes from a reference or a slice, with the slice's
+        // own length, and `out` and the two numbers overlap nothing.
+        unsafe {
+            calls::plates_read_text(
+                list.as_ptr(),
+                list.len(),
+                text.as_ptr(),
+                text.len(),
+                out.as_mut_ptr(),
+                out.len(),
+                length,
+                bends,
+            )
+        }
+    })
 }
 
 /// Writes an older plate list or shape file, whose fields may stand in any
@@ -408,6 +404,15 @@ pub fn current_revision(book: &[u8], model: u16) -> Result<Option<u16>, Refusal>
     let number =
         unsafe { calls::plates_current_revision(book.as_ptr(), book.len(), model, &mut revision) };
     accepted(number).map(|()| (revision != 0).then_some(revision))
+}
+
+/// The shape written by a call that gives its length and its bends.
+fn shape_by(call: impl FnOnce(&mut u32, &mut u32) -> u8) -> Result<Shape, Refusal> {
+    let mut length = 0;
+    let mut bends = 0;
+    accepted(call(&mut length, &mut bends))?;
+    let length = length as usize;
+    Ok(Shape { length, bends })
 }
 
 /// A call that reads bytes, writes to lent memory and gives the length of what
