@@ -1,4 +1,4 @@
--- What shaping promises, from what its steps give: the list's refusal, 24, 16, or the file of the best shape. Assumes nothing.
+-- What writing the file of counts promises, from what its steps give: 16, or the file; and what shaping does: the list's refusal, 24, 16, or the file of the best shape. Assumes nothing.
 use mathlib.Core.Path.{_≡_, refl, sym, ap, subst, _∙_}
 use mathlib.Core.Bool.{Bool, true, false}
 use mathlib.Core.List.{List}

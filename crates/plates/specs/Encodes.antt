@@ -50,7 +50,7 @@ pub record BestGiven (s : List ℕ) (f : Fields) (a r : List ℕ) (n : ℕ) : Ty
 abbrev pub refusedShape : ℕ → Shaped
 refusedShape e = record { number = e; long = 0; bends = 0 }
 
--- their file at the front of lent memory, or 16
+-- the file of angles a and right bends r at the front of lent memory, or 16
 abbrev pub FileSays : List ℕ → List ℕ → List ℕ → List ℕ → List ℕ → Shaped → Type 0
 FileSays s a r o o′ v =
     let b = fileBytes (walkAll false s .fields) a r in

@@ -1,4 +1,4 @@
--- The text of counts that bend no strip both ways is that of their shape, and is as long as the entries of all darts. Assumes nothing.
+-- The words that counts give: one has both digits exactly where some strip bends both ways; where none does, the text of the counts is that of their shape, and is as long as the entries of all darts. Assumes nothing.
 use mathlib.Core.Path.{_≡_, refl, sym, ap, subst, _∙_}
 use mathlib.Core.Bool.{Bool, true, false}
 use mathlib.Core.List.{List, []}

@@ -1,14 +1,12 @@
 -- The faces laid one after the other, the outer one first, are the plan of the text. Assumes nothing.
 use mathlib.Core.Path.{_≡_, refl, sym, ap, _∙_}
-use mathlib.Core.Bool.{Bool, true, false}
+use mathlib.Core.Bool.{false}
 use mathlib.Core.List.{List, [], _∷_, _++_, append-assoc, append-nil}
 use Prim.Native.Nat.{ℕ, suc, _+_, _≤_, _<_}
 use native.Mathlib.Numerals.{add-one}
 use native.Mathlib.Omega.{arith}
-use lib.Dec.{eqb}
 use lib.ListN.{length, getD, take, drop, length-append, take-append-drop, replicate, length-replicate}
 use lib.Seq.{take-suc, take-all}
-use borrow.Author.Tests.{eq-eqb, ne-eqb}
 use Rattle.finite.specs.Walks.{orbit}
 use Rattle.embedding.specs.Steps.{nextOf}
 use Rattle.embedding.specs.Read.{Stands, lead, placeOf, faceNumber}
@@ -20,29 +18,16 @@ use Rattle.embedding.proofs.Degrees.{darts-few}
 use Rattle.shapes.proofs.Accepted.{faultless, ordered}
 use Rattle.shapes.proofs.Places.{face-below-darts, index-of-lead}
 use Rattle.shapes.proofs.HeldPlate.{few-faces, faces-are}
-use Rattle.plates.specs.Plates.{Plate, pick, darts, faceOf, faces}
+use Rattle.plates.specs.Plates.{Plate, darts, faceOf, faces}
 use Rattle.plates.specs.Text.{Entry}
 use Rattle.plates.specs.Lines.{without, sequence, line, lines, faceEntries}
 use Rattle.texts.specs.Plan.{laid, laidIn, FaceRoom, FaceLaid, NumberFits, NumberLaid, OuterIs, Laying, PlanHeld}
 use Rattle.texts.specs.declared.planning.Laid.{Laid}
+use Rattle.texts.proofs.Without.{without-append, without-same, without-other}
 use Rattle.texts.proofs.Around.{plan-many}
 use Rattle.texts.proofs.LaidLaws.{laid-long}
 use Rattle.texts.proofs.FaceLeads.{few, held-one, held-face, number-start}
 use Rattle.texts.proofs.TextBack.{outer-below}
-
-without-append : (x : ℕ) (xs ys : List ℕ) → without x (xs ++ ys) ≡ without x xs ++ without x ys
-without-append x [] ys = refl
-without-append x (z ∷ xs) ys = go (eqb x z) (without-append x xs ys)
-  where
-    go : (b : Bool) → without x (xs ++ ys) ≡ without x xs ++ without x ys → pick b (without x (xs ++ ys)) (z ∷ without x (xs ++ ys)) ≡ pick b (without x xs) (z ∷ without x xs) ++ without x ys
-    go true e = e
-    go false e = ap (λ (l : List ℕ). z ∷ l) e
-
-without-same : (x y : ℕ) → x ≡ y → without x (y ∷ []) ≡ []
-without-same x y e = ap (λ (b : Bool). pick b [] (y ∷ [])) (eq-eqb x y e)
-
-without-other : (x y : ℕ) → (x ≡ y → ⊥) → without x (y ∷ []) ≡ y ∷ []
-without-other x y n = ap (λ (b : Bool). pick b [] (y ∷ [])) (ne-eqb x y n)
 
 lines-append : (p : Plate) (ds es : List ℕ) → lines p [] [] (ds ++ es) ≡ lines p [] [] ds ++ lines p [] [] es
 lines-append p [] es = refl

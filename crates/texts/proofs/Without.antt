@@ -1,15 +1,29 @@
--- A list without one of its numbers: what is in it, and that it stays distinct and ascending. Two distinct lists apart make a distinct one. Assumes nothing.
-use mathlib.Core.Path.{_≡_, refl, sym, subst, _∙_}
+-- A list without one of its numbers: part by part, what is in it, and that it stays distinct and ascending. Two distinct lists apart make a distinct one. Assumes nothing.
+use mathlib.Core.Path.{_≡_, refl, sym, ap, subst, _∙_}
 use mathlib.Core.Bool.{Bool, true, false}
 use mathlib.Core.List.{List, [], _∷_, _++_}
 use mathlib.Core.Logic.{⊎-elim}
 use Prim.Native.Nat.{ℕ, _<_}
 use lib.Dec.{eqb, ltb}
-use borrow.Author.Tests.{eqb-true, eqb-false, ltb-true, lt-ltb}
+use borrow.Author.Tests.{eqb-true, eqb-false, eq-eqb, ne-eqb, ltb-true, lt-ltb}
 use Rattle.finite.proofs.Tests.{and-left, and-right, and-both, not-both, not-true-false}
 use Rattle.finite.proofs.Members.{in-none, in-here, in-more, in-cases, in-append, distinct-head, distinct-rest, distinct-more}
 use Rattle.plates.specs.Plates.{pick, isIn, distinct}
 use Rattle.plates.specs.Lines.{without, allAbove, ascending}
+
+pub without-append : (x : ℕ) (xs ys : List ℕ) → without x (xs ++ ys) ≡ without x xs ++ without x ys
+without-append x [] ys = refl
+without-append x (z ∷ xs) ys = go (eqb x z) (without-append x xs ys)
+  where
+    go : (b : Bool) → without x (xs ++ ys) ≡ without x xs ++ without x ys → pick b (without x (xs ++ ys)) (z ∷ without x (xs ++ ys)) ≡ pick b (without x xs) (z ∷ without x xs) ++ without x ys
+    go true e = e
+    go false e = ap (λ (l : List ℕ). z ∷ l) e
+
+pub without-same : (x y : ℕ) → x ≡ y → without x (y ∷ []) ≡ []
+without-same x y e = ap (λ (b : Bool). pick b [] (y ∷ [])) (eq-eqb x y e)
+
+pub without-other : (x y : ℕ) → (x ≡ y → ⊥) → without x (y ∷ []) ≡ y ∷ []
+without-other x y n = ap (λ (b : Bool). pick b [] (y ∷ [])) (ne-eqb x y n)
 
 pub out-in : (x y : ℕ) (ys : List ℕ) → isIn y (without x ys) ≡ true → isIn y ys ≡ true
 out-in x y [] h = h

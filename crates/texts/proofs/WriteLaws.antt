@@ -1,4 +1,4 @@
--- What writing a text promises, from what its steps give: the list's refusal, the file's, the counts', 16, or the text. Assumes nothing.
+-- What writing a text promises, from what its steps give: the list's refusal, the file's, the counts', 31, 16, or the text. Assumes nothing.
 use mathlib.Core.Path.{_≡_, refl, sym, ap, subst, subst₂, _∙_}
 use mathlib.Core.Bool.{Bool, true, false, _&&_, _||_, not}
 use mathlib.Core.List.{List, [], _∷_}

@@ -1,4 +1,4 @@
--- What reading a text back gives: the counts' refusals, and the shape file.
+-- What the steps behind the parser ask and give: the refusals of what was read, and a list to write a file for.
 use mathlib.Core.Path.{_≡_}
 use mathlib.Core.Bool.{not}
 use mathlib.Core.List.{List}
