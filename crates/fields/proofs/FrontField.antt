@@ -23,10 +23,10 @@ module _ (t : ℕ) (c rest : List ℕ) where
   abbrev s : List ℕ
   s = field t c ++ rest
 
-  head-long : headLong s ≡ length c
+  pub head-long : headLong s ≡ length c
   head-long = omega arith
 
-  whole-long : length s ≡ 3 + length c + length rest
+  pub whole-long : length s ≡ 3 + length c + length rest
   whole-long = omega (arith, length-append c rest)
 
   pub front-field : fieldAt s ≡ metField t c

@@ -15,6 +15,9 @@ pub mod Rising
 pub mod RunBytes
 pub mod Sorted
 pub mod SixTags
+pub mod Replaced
+pub mod Remarked
+pub mod PassedOver
 pub mod Slots
 pub mod Only
 pub mod Puts

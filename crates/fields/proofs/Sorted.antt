@@ -26,7 +26,7 @@ use Rattle.fields.proofs.Ascent.{walks-same, run-ascends, run-in-order}
 use Rattle.fields.proofs.Rising.{rising-there, rising-absent, rising-none, rising-same, SameAt, absent-same, rising-other, rising-at, rising-up, rising-fixed, rising-add, bytes-cons-long}
 
 -- ---- a field at the front makes a run one longer
-run-front : {o k : Bool} (fs : List Field) (t : ℕ) (c rest : List ℕ) (more : List Field) → tagOk k t ≡ true → hasTag t fs ≡ false → (o && ltb t (lastTag fs)) ≡ false → longOk k t (length c) ≡ true
+pub run-front : {o k : Bool} (fs : List Field) (t : ℕ) (c rest : List ℕ) (more : List Field) → tagOk k t ≡ true → hasTag t fs ≡ false → (o && ltb t (lastTag fs)) ≡ false → longOk k t (length c) ≡ true
     → Run o k (addField fs (metField t c)) rest more → Run o k fs (field t c ++ rest) (metField t c ∷ more)
 run-front {o} {k} fs t c rest more tag new above long r =
     let s = field t c ++ rest in
@@ -80,7 +80,7 @@ module _ (k : Bool) (fs : List Field) (tags : TagsOk k fs) where
   sorted-same : SameFields (sorted k fs) fs
   sorted-same = record { there = λ u. same-at u .0; content = λ u. same-at u .1 }
 
-there-same : (k : Bool) (fs gs : List Field) → ((t : ℕ) → hasTag t fs ≡ hasTag t gs) → allThere k fs ≡ allThere k gs
+pub there-same : (k : Bool) (fs gs : List Field) → ((t : ℕ) → hasTag t fs ≡ hasTag t gs) → allThere k fs ≡ allThere k gs
 there-same true fs gs h = rw (h 17, h 18, h 19, h 20)
 there-same false fs gs h = rw (h 1, h 2, h 3, h 4, h 5)
 
@@ -156,7 +156,7 @@ module _ (k : Bool) (s : List ℕ) where
     fields-rise = subst (λ (fs : List Field). ascends 0 fs ≡ true) (sym (fields-of true w)) (run-ascends [] s (w .more) (w .run))
 
     -- the bytes of a file in order are those of its fields, sorted
-    bytes-of : allBytes s ≡ true → bytesIn (sorted k (walkAll k s .fields)) ≡ s
+    pub bytes-of : allBytes s ≡ true → bytesIn (sorted k (walkAll k s .fields)) ≡ s
     bytes-of b =
         ap bytesIn (sorted-fixed k (walkAll k s .fields) (all-tags true k s) fields-rise ∙ fields-of true w) ∙ run-bytes [] s (w .more) (w .run) b
 

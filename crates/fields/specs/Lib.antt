@@ -5,3 +5,4 @@ pub mod Says
 pub mod Writing
 pub mod Ordering
 pub mod Unlimited
+pub mod Remarks

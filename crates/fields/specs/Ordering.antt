@@ -70,6 +70,11 @@ pub record SameFields (fs gs : List Field) : Type 0 where
   pub there : (t : ℕ) → hasTag t fs ≡ hasTag t gs
   pub content : (t : ℕ) → contentOf t fs ≡ contentOf t gs
 
+-- the same but for the field of one tag
+pub record SameBesides (tag : ℕ) (fs gs : List Field) : Type 0 where
+  pub there : (t : ℕ) → (t ≡ tag → ⊥) → hasTag t fs ≡ hasTag t gs
+  pub content : (t : ℕ) → (t ≡ tag → ⊥) → contentOf t fs ≡ contentOf t gs
+
 -- a field's refusals before request E7
 abbrev pub oldFault : Bool → List Field → List ℕ → ℕ
 oldFault isShape fs s =
