@@ -1,14 +1,13 @@
 -- The length of each field's content in a list that passed the walk, and what fields with the same contents give. Assumes nothing.
-use mathlib.Core.Path.{_≡_, refl, ap}
-use mathlib.Core.Bool.{Bool, true, false, _&&_}
+use mathlib.Core.Path.{_≡_}
+use mathlib.Core.Bool.{true, false, _&&_}
 use mathlib.Core.List.{List}
 use Prim.Native.Nat.{ℕ, _%_, _≤_}
-use native.Mathlib.Omega.{arith}
 use lib.Dec.{eqb, leb}
 use lib.ListN.{length}
 use borrow.Author.Tests.{eqb-true, leb-true}
 use Rattle.finite.proofs.Tests.{and-left, and-right}
-use Rattle.fields.proofs.Laid.{all-laid, absent-none}
+use Rattle.fields.proofs.Laid.{all-laid}
 use Rattle.fields.proofs.Runs.{all-there}
 use Rattle.plates.specs.Files.{Field, hasTag, contentOf, walkAll, plateIn, fileBytes}
 
@@ -18,7 +17,6 @@ pub record ListFields (fs : List Field) : Type 0 where
   pub ends-most : length (contentOf 3 fs) ≤ 256
   pub ends-even : length (contentOf 3 fs) % 2 ≡ 0
   pub order-most : length (contentOf 4 fs) ≤ 256
-  pub remark-most : length (contentOf 6 fs) ≤ 80
 
 module _ (s : List ℕ) (e : walkAll false s .number ≡ 0) where
   abbrev fs : List Field
@@ -39,13 +37,6 @@ module _ (s : List ℕ) (e : walkAll false s .number ≡ 0) where
   ends-laid : (leb (length (contentOf 3 fs)) 256 && eqb (length (contentOf 3 fs) % 2) 0) ≡ true
   ends-laid = all-laid true false s 3 (and-left (hasTag 3 fs) _ there-3)
 
-  remark-laid : length (contentOf 6 fs) ≤ 80
-  remark-laid = go (hasTag 6 fs) refl
-    where
-      go : (b : Bool) → hasTag 6 fs ≡ b → length (contentOf 6 fs) ≤ 80
-      go true h = leb-true (length (contentOf 6 fs)) 80 (all-laid true false s 6 h)
-      go false h = omega (arith, ap length (absent-none 6 fs h))
-
   pub list-fields : ListFields fs
   list-fields =
       record {
@@ -53,12 +44,11 @@ module _ (s : List ℕ) (e : walkAll false s .number ≡ 0) where
         ends-most = leb-true (length (contentOf 3 fs)) 256 (and-left (leb (length (contentOf 3 fs)) 256) _ ends-laid);
         ends-even = eqb-true (length (contentOf 3 fs) % 2) 0 (and-right (leb (length (contentOf 3 fs)) 256) _ ends-laid);
         order-most = leb-true (length (contentOf 4 fs)) 256 (all-laid true false s 4 (and-left (hasTag 4 fs) _ there-4));
-        remark-most = remark-laid;
       }
 
--- fields with the same contents give the same plate, and shape files copy the same from them
+-- fields with the same contents give the same plate, and shape files copy the same revision from them
 pub plate-by : (fs gs : List Field) → contentOf 2 fs ≡ contentOf 2 gs → contentOf 3 fs ≡ contentOf 3 gs → contentOf 4 fs ≡ contentOf 4 gs → contentOf 5 fs ≡ contentOf 5 gs → plateIn fs ≡ plateIn gs
 plate-by fs gs posts ends order outer = rw (posts, ends, order, outer)
 
-pub copied-by : (fs gs : List Field) → contentOf 1 fs ≡ contentOf 1 gs → hasTag 6 fs ≡ hasTag 6 gs → contentOf 6 fs ≡ contentOf 6 gs → (a r : List ℕ) → fileBytes fs a r ≡ fileBytes gs a r
-copied-by fs gs revision there remark a r = rw (revision, there, remark)
+pub copied-by : (fs gs : List Field) → contentOf 1 fs ≡ contentOf 1 gs → (a r : List ℕ) → fileBytes fs a r ≡ fileBytes gs a r
+copied-by fs gs revision a r = rw revision

@@ -2,20 +2,18 @@
 use mathlib.Core.Path.{_≡_, sym, subst, subst₂}
 use mathlib.Core.Bool.{false}
 use mathlib.Core.List.{List}
-use Prim.Native.Nat.{ℕ, _+_, _*_, _≤_}
+use Prim.Native.Nat.{ℕ, _≤_}
 use native.Mathlib.Omega.{arith}
 use lib.ListN.{length}
 use Rattle.fields.proofs.Longest as Longest
-use Rattle.shapes.proofs.Accepted.{ordered}
-use Rattle.shapes.proofs.Tamassia.{two-to-a-strip}
-use Rattle.plates.specs.Plates.{Plate, strips}
+use Rattle.plates.specs.Plates.{Plate}
 use Rattle.plates.specs.Shapes.{rightsOf, shapeOf}
 use Rattle.plates.specs.Files.{walkAll, listFault, plateOf, limitsOf}
 use Rattle.plates.specs.Claims.{BestWithin}
-use Rattle.plates.specs.Says.{fileLong, remarkLong, SamePlate, Same-shape, Demands, Files}
-use Rattle.plates.proofs.Contents.{plate-by}
+use Rattle.plates.specs.Says.{fileLong, SamePlate, Same-shape, Demands, Files}
+use Rattle.plates.proofs.Contents.{list-fields, plate-by}
 use Rattle.plates.proofs.Fronts.{fronts}
-use Rattle.plates.proofs.Lists.{list-walked, list-accepted, list-demands}
+use Rattle.plates.proofs.Lists.{list-walked, list-demands}
 use Rattle.plates.proofs.Sound.{sound-exactly}
 use Rattle.plates.proofs.ReadsBack.{reads-back}
 use Rattle.plates.proofs.Verdicts.{same-counts, written-verdict}
@@ -37,8 +35,8 @@ same-shape s t a r b q e h x m y n =
 pub list-longest : (s : List ℕ) → listFault s ≡ 0 → length s ≤ 745
 list-longest s e = Longest.list-longest s (list-walked s e)
 
-pub file-long : (s : List ℕ) → listFault s ≡ 0 → fileLong s ≡ 16 + 4 * strips (plateOf s) + remarkLong (walkAll false s .fields)
-file-long s e = omega (arith, two-to-a-strip (plateOf s) (ordered (plateOf s) (list-accepted s e)))
+pub file-longest : (s : List ℕ) → listFault s ≡ 0 → fileLong s ≤ 528
+file-longest s e = omega (arith, list-fields s (list-walked s e) .ends-most)
 
 pub files : Files
 files =
@@ -46,7 +44,7 @@ files =
       same-shape = same-shape;
       written-verdict = written-verdict;
       list-longest = list-longest;
+      file-longest = file-longest;
       front = fronts;
-      file-long = file-long;
       file-bytes = shape-bytes-fit;
     }

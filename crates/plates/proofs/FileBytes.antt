@@ -13,14 +13,14 @@ use Rattle.fields.proofs.Turns.{passed-by}
 use Rattle.fields.proofs.Bytes.{bytes-take, bytes-drop, bytes-append, bytes-two, bytes-field}
 use Rattle.fields.proofs.Laid.{every-field}
 use Rattle.shapes.proofs.Meets.{meets-facts}
-use Rattle.plates.specs.Plates.{Plate, pick}
+use Rattle.plates.specs.Plates.{Plate}
 use Rattle.plates.specs.Shapes.{total, anglesOk, rightsOf, shapeOf}
-use Rattle.plates.specs.Files.{Field, hasTag, contentOf, addField, headLong, fieldFault, fieldAt, walkAll, two, field, remarkPart, fileBytes, shapeBytes, listFault, plateOf, limitsOf}
+use Rattle.plates.specs.Files.{Field, contentOf, addField, headLong, fieldFault, fieldAt, walkAll, two, field, fileBytes, shapeBytes, listFault, plateOf, limitsOf}
 use Rattle.plates.specs.Claims.{BestOf}
 use Rattle.plates.specs.Says.{allBytes}
 use Rattle.plates.proofs.Contents.{ListFields, list-fields}
 use Rattle.plates.proofs.Lists.{list-walked, list-accepted}
-use Rattle.plates.proofs.ShapeFile.{from-18, from-19, from-20}
+use Rattle.plates.proofs.ShapeFile.{from-18, from-19}
 use Rattle.plates.proofs.ReadsBack.{angles-many, rights-many, shape-bytes}
 use Rattle.shapes.proofs.BestFits.{within-unit, within-total}
 
@@ -73,19 +73,12 @@ module _ (s a r : List ℕ) (e : listFault s ≡ 0) (bytes : allBytes s ≡ true
   bytes-rights : allBytes r ≡ true
   bytes-rights = each-over allBytes (λ x. ltb x 256) refl (λ x y. refl) r (λ d l. lt-ltb (getD r d 0) 256 (unit-fit d l))
 
-  bytes-remark : allBytes (remarkPart fs) ≡ true
-  bytes-remark = go (hasTag 6 fs)
-    where
-      go : (b : Bool) → allBytes (pick b (field 21 (contentOf 6 fs)) []) ≡ true
-      go true = bytes-field 21 (contentOf 6 fs) (omega arith) (omega (arith, laid .remark-most)) (contents-bytes false s bytes 6)
-      go false = refl
-
   written-bytes : allBytes (fileBytes fs a r) ≡ true
   written-bytes =
-      bytes-append (field 17 (contentOf 1 fs)) (from-18 fs a r) (bytes-field 17 (contentOf 1 fs) (omega arith) (omega (arith, laid .revision)) (contents-bytes false s bytes 1))
-      (bytes-append (field 18 (two (total r))) (from-19 fs a r) (bytes-field 18 (two (total r)) (omega arith) (omega arith) (bytes-two (total r) total-fit))
-      (bytes-append (field 19 a) (from-20 fs r) (bytes-field 19 a (omega arith) angles-fit (bytes-angles a (meets-facts p (shapeOf p a r) (best .meets-all) .angles-ok)))
-      (bytes-append (field 20 r) (remarkPart fs) (bytes-field 20 r (omega arith) rights-fit bytes-rights) bytes-remark)))
+      bytes-append (field 17 (contentOf 1 fs)) (from-18 a r) (bytes-field 17 (contentOf 1 fs) (omega arith) (omega (arith, laid .revision)) (contents-bytes false s bytes 1))
+      (bytes-append (field 18 (two (total r))) (from-19 a r) (bytes-field 18 (two (total r)) (omega arith) (omega arith) (bytes-two (total r) total-fit))
+      (bytes-append (field 19 a) (field 20 r) (bytes-field 19 a (omega arith) angles-fit (bytes-angles a (meets-facts p (shapeOf p a r) (best .meets-all) .angles-ok)))
+      (bytes-field 20 r (omega arith) rights-fit bytes-rights)))
 
   pub shape-bytes-fit : allBytes (shapeBytes fs (shapeOf p a r)) ≡ true
   shape-bytes-fit = ap allBytes (shape-bytes s a r e (best .meets-all) counts) ∙ written-bytes

@@ -27,3 +27,5 @@ pub mod Calls
 pub mod Loops
 pub mod Joints
 pub mod Limits
+pub mod PassedOver
+pub mod SoundBytes

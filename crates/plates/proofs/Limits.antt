@@ -1,5 +1,5 @@
 -- Limits of bends over lists: 24 is given exactly where no shape keeps them, and without field 07 the walk, and so every promise, is that of before. Assumes nothing.
-use mathlib.Core.Path.{_≡_, refl, sym, ap, ap₂, subst, _∙_}
+use mathlib.Core.Path.{_≡_, refl, sym, ap, subst, _∙_}
 use mathlib.Core.Bool.{Bool, true, false, _||_, not}
 use mathlib.Core.List.{List, [], _∷_}
 use mathlib.Core.Logic.{_↔_}
@@ -21,14 +21,15 @@ use Rattle.shapes.proofs.Tried.{loop-best}
 use Rattle.plates.specs.declared.Shaped.{Shaped}
 use Rattle.plates.specs.declared.Verdict.{Verdict}
 use Rattle.plates.specs.declared.Listed.{Listed}
-use Rattle.plates.specs.Plates.{Plate, pick, pickT, firstOf, when, darts, strips, plateFault}
+use Rattle.plates.specs.Plates.{Plate, pickT, firstOf, when, strips, plateFault}
 use Rattle.plates.specs.Shapes.{Shape, bends, rightsOf, total, pairSums, allWithin, allFree, shapeOf}
 use Rattle.plates.specs.Files.{Walk, hasTag, walkAll, limitsFit, limitsFault, listFault, plateOf, limitsOf, fileBytes, shapeBytes}
 use Rattle.plates.specs.Claims.{Best, BestOf, SomeWithin, NoneWithin, HasBest}
-use Rattle.plates.specs.Says.{over, remarkLong, fileLong, rightsIn, NoneKeeps, shapeFault, fileFaultBy, checkFault, ShapeWith, ShapeSays, CheckWith, CheckSays}
+use Rattle.plates.specs.Says.{over, fileLong, rightsIn, NoneKeeps, shapeFault, fileFaultBy, checkFault, ShapeWith, ShapeSays, CheckWith, CheckSays}
 use Rattle.plates.specs.Listing.{refusedText, Gives, ListingWith, ListingSays}
 use Rattle.plates.specs.Answers.{shaped}
-use Rattle.plates.specs.Limits.{walkFault, sixWalk, comesTo, ShapeBy, ShapeFrom, CheckBy, CheckFrom, ListingBy, ListingFrom, AsUnlimited, SameBesides, limitedLoop, One-limit, Limits}
+use Rattle.plates.specs.Ordering.{SameBesides}
+use Rattle.plates.specs.Limits.{walkFault, sixWalk, comesTo, ShapeBy, ShapeFrom, CheckBy, CheckFrom, ListingBy, ListingFrom, AsUnlimited, limitedLoop, One-limit, Limits}
 use Rattle.plates.proofs.Contents.{plate-by, copied-by}
 use Rattle.plates.proofs.Lists.{list-accepted, list-number, list-demands, best-some, free-some}
 use Rattle.plates.proofs.OneAnswer.{one-number, shape-only}
@@ -98,19 +99,18 @@ free-number b z free n o k =
     ∙ ap (λ (m : ℕ). firstOf m (when (ltb (length o) (fileLong b)) 16)) z
 
 -- two such lists that are the same besides
-module _ (s t : List ℕ) (e : listFault s ≡ 0) (e′ : listFault t ≡ 0) (h : SameBesides s t) (f : allFree (limitsOf s) ≡ true) (g : allFree (limitsOf t) ≡ true) where
+module _ (s t : List ℕ) (e : listFault s ≡ 0) (e′ : listFault t ≡ 0) (h : SameBesides 7 (walkAll false s .fields) (walkAll false t .fields)) (f : allFree (limitsOf s) ≡ true) (g : allFree (limitsOf t) ≡ true) where
   same-plate : plateOf t ≡ plateOf s
   same-plate = sym (plate-by (walkAll false s .fields) (walkAll false t .fields) (h .content 2 (λ z. omega arith)) (h .content 3 (λ z. omega arith)) (h .content 4 (λ z. omega arith)) (h .content 5 (λ z. omega arith)))
 
   same-copied : (a x : List ℕ) → fileBytes (walkAll false t .fields) a x ≡ fileBytes (walkAll false s .fields) a x
-  same-copied a x = sym (copied-by (walkAll false s .fields) (walkAll false t .fields) (h .content 1 (λ z. omega arith)) (h .there 6 (λ z. omega arith)) (h .content 6 (λ z. omega arith)) a x)
+  same-copied a x = sym (copied-by (walkAll false s .fields) (walkAll false t .fields) (h .content 1 (λ z. omega arith)) a x)
 
   same-bytes : (a x : List ℕ) → shapeBytes (walkAll false t .fields) (shapeOf (plateOf t) a x) ≡ shapeBytes (walkAll false s .fields) (shapeOf (plateOf s) a x)
   same-bytes a x = ap (λ (p : Plate). shapeBytes (walkAll false t .fields) (shapeOf p a x)) same-plate ∙ same-copied a (rightsOf (shapeOf (plateOf s) a x .words))
 
   same-long : fileLong t ≡ fileLong s
-  same-long = ap (λ (p : Plate). 16 + (2 * darts p + remarkLong (walkAll false t .fields))) same-plate
-      ∙ sym (ap₂ (λ (b : Bool) (c : List ℕ). 16 + (2 * darts (plateOf s) + pick b (3 + length c) 0)) (h .there 6 (λ z. omega arith)) (h .content 6 (λ z. omega arith)))
+  same-long = ap (λ (p : Plate). 16 + 4 * strips p) same-plate
 
   same-best : (a x : List ℕ) → BestOf t (shapeOf (plateOf t) a x) → BestOf s (shapeOf (plateOf s) a x)
   same-best a x b = as-plate s _ f .1 (subst (λ (p : Plate). Best p (shapeOf p a x)) same-plate (as-plate t _ g .0 b))
@@ -163,13 +163,13 @@ module _ (s : List ℕ) (c : comesTo true 7 s ≡ false) where
   flagless none f h = one-number s none false f h kept ∙ ap (λ (n : ℕ). firstOf n (f false)) number
 
   abbrev check-number : List ℕ → ℕ
-  check-number t = firstOf (walkFault w) (fileFaultBy (w .fields) t 0)
+  check-number t = firstOf (walkFault w) (fileFaultBy (w .fields) (walkAll true t) 0)
 
   -- nor 25
   file-number : (t : List ℕ) → checkFault s t ≡ check-number t
   file-number t =
-      ap (λ (b : Bool). firstOf (listFault s) (fileFaultBy (w .fields) t (when (not b) 25))) (free-within (limitsOf s) (pairSums (rightsIn t)) free)
-      ∙ ap (λ (n : ℕ). firstOf n (fileFaultBy (w .fields) t 0)) number
+      ap (λ (b : Bool). firstOf (listFault s) (fileFaultBy (w .fields) (walkAll true t) (when (not b) 25))) (free-within (limitsOf s) (pairSums (rightsIn t)) free)
+      ∙ ap (λ (n : ℕ). firstOf n (fileFaultBy (w .fields) (walkAll true t) 0)) number
 
   shape-by : (f : ℕ) (o o′ : List ℕ) (r : Shaped) → ShapeWith f s o o′ r ↔ ShapeBy f (w .fields) o o′ r
   shape-by zero o o′ r = (

@@ -16,7 +16,7 @@ limits-same : (fs gs : List Field) → SameFields fs gs → limitsFault fs ≡ l
 limits-same fs gs h = rw (h .there 7, h .content 7, h .content 3)
 
 copied-same : (fs gs : List Field) → SameFields fs gs → (a r : List ℕ) → fileBytes fs a r ≡ fileBytes gs a r
-copied-same fs gs h = copied-by fs gs (h .content 1) (h .there 6) (h .content 6)
+copied-same fs gs h = copied-by fs gs (h .content 1)
 
 module _ (s : List ℕ) (e : oldWalk false s .number ≡ 0) where
   abbrev fs : List Field

@@ -9,8 +9,9 @@ use Rattle.shapes.proofs.Words.{rights-long}
 use Rattle.shapes.proofs.Meets.{Meets, meets-facts}
 use Rattle.plates.specs.Plates.{Plate, darts}
 use Rattle.plates.specs.Shapes.{Shape, meets, bends, total, rightsOf, stripBends, allWithin, shapeOf}
-use Rattle.plates.specs.Files.{Field, Walk, walk, contentOf, walkAll, listFault, plateOf, limitsOf, fileBytes, shapeBytes}
+use Rattle.plates.specs.Files.{Field, Walk, walk, hasTag, contentOf, walkAll, listFault, plateOf, limitsOf, fileBytes, shapeBytes}
 use Rattle.plates.specs.Says.{word, anglesIn, rightsIn, checkFault, fileLong, Reads-back}
+use Rattle.plates.specs.Remarks.{NoRemark}
 use Rattle.plates.proofs.Contents.{ListFields, list-fields}
 use Rattle.plates.proofs.Lists.{list-walked}
 use Rattle.fields.proofs.FrontField.{word-two}
@@ -43,7 +44,7 @@ module _ (s a r : List ℕ) (e : listFault s ≡ 0) (m : meets (plateOf s) (shap
   rights-many = ap length (sym counts) ∙ rights-long (x .words) ∙ facts .words-long
 
   walked : walkAll true b ≡ walk 0 (fieldsMet fs a r (laid .revision))
-  walked = file-walked fs a r (laid .revision) (omega (arith, laid .ends-most, angles-many)) (omega (arith, laid .ends-most, rights-many)) (laid .remark-most)
+  walked = file-walked fs a r (laid .revision) (omega (arith, laid .ends-most, angles-many)) (omega (arith, laid .ends-most, rights-many))
 
   angles-back : anglesIn b ≡ a
   angles-back = ap (λ (w : Walk). contentOf 19 (w .fields)) walked
@@ -52,13 +53,17 @@ module _ (s a r : List ℕ) (e : listFault s ≡ 0) (m : meets (plateOf s) (shap
   rights-back = ap (λ (w : Walk). contentOf 20 (w .fields)) walked
 
   long-back : length b ≡ fileLong s
-  long-back = omega (arith, bytes-long fs a r (laid .revision), angles-many, rights-many)
+  long-back = omega (arith, bytes-long fs a r (laid .revision), angles-many, rights-many, laid .ends-even)
 
   revision-back : word (contentOf 17 (walkAll true b .fields)) ≡ word (contentOf 1 fs)
   revision-back = ap (λ (w : Walk). word (contentOf 17 (w .fields))) walked
 
   total-back : word (contentOf 18 (walkAll true b .fields)) ≡ bends x
   total-back = ap (λ (w : Walk). word (contentOf 18 (w .fields))) walked ∙ word-two (total r) ∙ ap total (sym counts)
+
+  -- none of its fields is a remark
+  pub no-remark : NoRemark s b
+  no-remark = record { reads = ap (λ (w : Walk). w .number) walked; no-remark = ap (λ (w : Walk). hasTag 21 (w .fields)) walked; long = long-back }
 
   -- the bytes of the shape are those of its counts
   pub shape-bytes : shapeBytes fs x ≡ b

@@ -19,7 +19,7 @@ use Rattle.plates.specs.Encodes.{FileGiven, ToWrite, FileWritten, BestGi
 use Rattle.plates.proofs.Lists.{list-accepted}
 use Rattle.plates.proofs.ReadsBack.{angles-many, rights-many, shape-bytes}
 use Rattle.shapes.proofs.BestFits.{within-total}
-use Rattle.plates.proofs.FileRows.{darts-most, remark-most}
+use Rattle.plates.proofs.FileRows.{darts-most}
 
 refused-with : (e : ℕ) (s o : List ℕ) → (e ≡ 0 → ⊥) → ShapeWith e s o o (refusedShape e)
 refused-with zero s o n = absurd (n refl)
@@ -49,8 +49,8 @@ module _ {s : List ℕ} {f : Fields} {a r : List ℕ} {n : ℕ} (g : FileGiven s
   pub to-write : (room : ℕ) → fileLong s ≤ room → ToWrite s f a r n room
   to-write room l = record { given = g; enough = l }
 
-  pub file-short : fileLong s ≤ 611
-  file-short = omega (arith, darts-most (g .walked), remark-most (g .walked))
+  pub file-short : fileLong s ≤ 528
+  file-short = omega (arith, darts-most (g .walked))
 
   pub written-says : (o o′ : List ℕ) (long m : ℕ) → fileLong s ≤ length o → long ≡ fileLong s → FileWritten s a r o o′ m → FileSays s a r o o′ (record { number = 0; long = long; bends = n })
   written-says o o′ long m l e w =

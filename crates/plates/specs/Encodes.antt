@@ -2,7 +2,7 @@
 use mathlib.Core.Path.{_≡_}
 use mathlib.Core.Bool.{false}
 use mathlib.Core.List.{List}
-use Prim.Native.Nat.{ℕ, _+_, _≤_, _<_}
+use Prim.Native.Nat.{ℕ, _≤_, _<_}
 use lib.Dec.{ltb}
 use lib.ListN.{length}
 use Rattle.fields.specs.declared.Fields.{Fields}
@@ -11,7 +11,7 @@ use Rattle.plates.specs.Plates.{pickT, darts}
 use Rattle.plates.specs.Shapes.{total, rightsOf, shapeOf}
 use Rattle.plates.specs.Files.{walkAll, listFault, plateOf, fileBytes}
 use Rattle.plates.specs.Claims.{BestOf}
-use Rattle.plates.specs.Says.{over, remarkLong, fileLong}
+use Rattle.plates.specs.Says.{over, fileLong}
 use Rattle.plates.specs.Read.{Walked}
 
 -- angles a and right bends r, one of each for each dart, n right bends in all
@@ -32,11 +32,6 @@ pub record FileWritten (s a r out out′ : List ℕ) (n : ℕ) : Type 0 where
   pub bytes : out′ ≡ over (fileBytes (walkAll false s .fields) a r) out
   pub long : n ≡ fileLong s
   pub size : n ≡ length (fileBytes (walkAll false s .fields) a r)
-
--- room for the remark from a place on
-pub record RemarkRoom (s : List ℕ) (f : Fields) (at room : ℕ) : Type 0 where
-  pub walked : Walked s f
-  pub enough : at + remarkLong (walkAll false s .fields) ≤ room
 
 -- the counts of the best shape of an accepted list, n right bends in all
 pub record BestGiven (s : List ℕ) (f : Fields) (a r : List ℕ) (n : ℕ) : Type 0 where

@@ -1,10 +1,10 @@
 -- Plate lists and shape files: the walk's refusals 1 to 6 and 29 as the crate fields defines them; the plate of a list and its limits of bends; the bytes of a shape file.
 use mathlib.Core.Bool.{Bool, false, _||_, not}
-use mathlib.Core.List.{List, [], _++_}
+use mathlib.Core.List.{List, _++_}
 use Prim.Native.Nat.{ℕ}
 use lib.Dec.{eqb}
 use lib.ListN.{length, getD}
-use Rattle.plates.specs.Plates.{pick, firstOf, when, Plate, plate, strips, plateFault}
+use Rattle.plates.specs.Plates.{firstOf, when, Plate, plate, strips, plateFault}
 use Rattle.plates.specs.Shapes.{Shape, rightsOf, total}
 pub use Rattle.fields.specs.Files.{tagOk, longOk, Field, hasTag, contentOf, addField, Walk, walk, allThere, headLong, lastTag, faultWhere, faultBy, fieldFault, fieldAt, fieldsWith, fieldsBy, fieldsFrom, walkBy, walkAll, oldWalk, two, field}
 
@@ -33,13 +33,9 @@ plateOf s = plateIn (walkAll false s .fields)
 abbrev pub limitsOf : List ℕ → List ℕ
 limitsOf s = contentOf 7 (walkAll false s .fields)
 
--- a shape file written: revision and remark copied
-abbrev pub remarkPart : List Field → List ℕ
-remarkPart fs = pick (hasTag 6 fs) (field 21 (contentOf 6 fs)) []
-
--- the five fields of given angles and right bends
+-- a shape file written: the list's revision, then total, angles and right bends
 abbrev pub fileBytes : List Field → List ℕ → List ℕ → List ℕ
-fileBytes fs a r = field 17 (contentOf 1 fs) ++ (field 18 (two (total r)) ++ (field 19 a ++ (field 20 r ++ remarkPart fs)))
+fileBytes fs a r = field 17 (contentOf 1 fs) ++ (field 18 (two (total r)) ++ (field 19 a ++ field 20 r))
 
 abbrev pub shapeBytes : List Field → Shape → List ℕ
 shapeBytes fs s = fileBytes fs (s .angles) (rightsOf (s .words))

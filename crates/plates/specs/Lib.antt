@@ -18,5 +18,6 @@ pub mod Text
 pub mod Grammar
 pub mod Lines
 pub mod Texts
+pub mod Remarks
 pub mod Tried
 pub mod Books

@@ -16,6 +16,7 @@ use Rattle.plates.specs.Claims.{Best, BestOf, SomeWithin, NoneWithin, Ha
 use Rattle.plates.specs.Says.{over, word, fileLongIn, anglesIn, rightsIn, fileFaultBy, checkFault, ShapeSays, CheckSays}
 use Rattle.plates.specs.Listing.{refusedText, listingText, Gives, ListingSays}
 use Rattle.plates.specs.Answers.{shaped}
+use Rattle.plates.specs.Ordering.{SameBesides}
 pub use Rattle.fields.specs.Unlimited.{sixTag, sixLong, sixFault, sixWalk, sixBytes, SixOrdered, comesFrom, comesTo, Six-tags}
 
 -- the most bends of strip i, 255 for no limit
@@ -48,7 +49,7 @@ CheckBy (suc f) fs t r = (r .number ≡ suc f) × (r .total ≡ 0) × (r .fewest
 
 -- with nothing behind 22
 abbrev pub CheckFrom : Walk → List ℕ → Verdict → Type 0
-CheckFrom w t r = CheckBy (firstOf (walkFault w) (fileFaultBy (w .fields) t 0)) (w .fields) t r
+CheckFrom w t r = CheckBy (firstOf (walkFault w) (fileFaultBy (w .fields) (walkAll true t) 0)) (w .fields) t r
 
 abbrev pub ListingBy : ℕ → List Field → List ℕ → List ℕ → Listed → Type 0
 ListingBy zero fs o o′ r = BestFrom fs (λ a x b. Gives (listingText (word (contentOf 1 fs)) a x) o o′ r)
@@ -64,11 +65,6 @@ pub record AsUnlimited (s : List ℕ) : Type 0 where
   pub written : (o o′ : List ℕ) (r : Shaped) → ShapeSays s o o′ r ↔ ShapeFrom (sixWalk true s) o o′ r
   pub checked : (t : List ℕ) (r : Verdict) → CheckSays s t r ↔ CheckFrom (sixWalk true s) t r
   pub listed : (o o′ : List ℕ) (r : Listed) → ListingSays s o o′ r ↔ ListingFrom (sixWalk true s) o o′ r
-
--- two lists that differ in field 07 at most
-pub record SameBesides (s t : List ℕ) : Type 0 where
-  pub there : (u : ℕ) → (u ≡ 7 → ⊥) → hasTag u (walkAll false s .fields) ≡ hasTag u (walkAll false t .fields)
-  pub content : (u : ℕ) → (u ≡ 7 → ⊥) → contentOf u (walkAll false s .fields) ≡ contentOf u (walkAll false t .fields)
 
 -- one post and one strip to itself, whose shape has three bends on dart 0, with a limit of n bends; revision 7
 abbrev pub limitedLoop : ℕ → List ℕ
@@ -103,7 +99,7 @@ pub record Limits : Type 0 where
   -- with 255 everywhere, or without the field, the best shape is that of the plate
   pub no-field : (b : List ℕ) → hasTag 7 (walkAll false b .fields) ≡ false → allFree (limitsOf b) ≡ true
   pub as-plate : (b : List ℕ) (u : Shape) → allFree (limitsOf b) ≡ true → BestOf b u ↔ Best (plateOf b) u
-  -- and two such lists that are the same besides get the same answer and the same bytes, whatever memory is lent
-  pub all-free : (s t o o₁ o₂ : List ℕ) (r q : Shaped) → listFault s ≡ 0 → listFault t ≡ 0 → SameBesides s t → allFree (limitsOf s) ≡ true → allFree (limitsOf t) ≡ true
+  -- and two such lists that differ in field 07 at most get the same answer and the same bytes, whatever memory is lent
+  pub all-free : (s t o o₁ o₂ : List ℕ) (r q : Shaped) → listFault s ≡ 0 → listFault t ≡ 0 → SameBesides 7 (walkAll false s .fields) (walkAll false t .fields) → allFree (limitsOf s) ≡ true → allFree (limitsOf t) ≡ true
       → ShapeSays s o o₁ r → ShapeSays t o o₂ q → (o₁ ≡ o₂) × (r ≡ q)
   pub one-limit : One-limit

@@ -5,7 +5,7 @@ use mathlib.Core.List.{List}
 use Prim.Native.Nat.{ℕ}
 use Rattle.plates.specs.Plates.{plateFault}
 use Rattle.plates.specs.Files.{contentOf, walkAll, oldWalk, plateIn, faultFrom, listFault, plateOf, limitsOf, fileBytes}
-pub use Rattle.fields.specs.Ordering.{fieldOf, rising, sorted, bytesIn, isShapeFile, orderedBytes, orderFault, OrderWith, OrderSays, SameFields, oldFault, ascends, Taken, Tag-order}
+pub use Rattle.fields.specs.Ordering.{fieldOf, rising, sorted, bytesIn, isShapeFile, orderedBytes, orderFault, OrderWith, OrderSays, SameFields, SameBesides, oldFault, ascends, Taken, Tag-order}
 
 -- the refusals of a list whose fields may stand in any order
 abbrev pub oldListFault : List ℕ → ℕ

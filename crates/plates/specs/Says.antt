@@ -8,19 +8,16 @@ use lib.Dec.{eqb, ltb}
 use lib.ListN.{length, take}
 use Rattle.plates.specs.declared.Shaped as DS
 use Rattle.plates.specs.declared.Verdict as DV
-use Rattle.plates.specs.Plates.{pick, pickT, firstOf, when, darts, strips, faces}
+use Rattle.plates.specs.Plates.{pickT, firstOf, when, darts, strips, faces}
 use Rattle.plates.specs.Shapes.{meets, anglesOk, postsOk, facesOk, bends, total, same, rightsOf, pairSums, stripBends, allWithin, shapeOf}
-use Rattle.plates.specs.Files.{Field, hasTag, contentOf, walkAll, listFault, plateIn, plateOf, limitsOf, shapeBytes}
+use Rattle.plates.specs.Files.{Field, Walk, contentOf, walkAll, listFault, plateIn, plateOf, limitsOf, shapeBytes}
 use Rattle.plates.specs.Claims as C
 pub use Rattle.fields.specs.Says.{word}
 pub use Rattle.fields.specs.Writing.{over, allBytes}
 
--- shaping: the list's numbers, 24, 16; the file of the best shape within the limits, whose angles and right bends are named
-abbrev pub remarkLong : List Field → ℕ
-remarkLong fs = pick (hasTag 6 fs) (3 + length (contentOf 6 fs)) 0
-
+-- the length of a shape file that is written
 abbrev pub fileLongIn : List Field → ℕ
-fileLongIn fs = 16 + (2 * darts (plateIn fs) + remarkLong fs)
+fileLongIn fs = 16 + 4 * strips (plateIn fs)
 
 abbrev pub fileLong : List ℕ → ℕ
 fileLong s = fileLongIn (walkAll false s .fields)
@@ -29,10 +26,11 @@ fileLong s = fileLongIn (walkAll false s .fields)
 abbrev pub NoneKeeps : Bool → List ℕ → Type 0
 NoneKeeps none s = listFault s ≡ 0 → pickT none (C.NoneWithin s) (C.SomeWithin s)
 
--- told this: 24 exactly where none does, before 16
+-- shaping: the list's numbers, 24 exactly where none does, 16
 abbrev pub shapeFault : Bool → List ℕ → List ℕ → ℕ
 shapeFault none s o = firstOf (listFault s) (firstOf (when none 24) (when (ltb (length o) (fileLong s)) 16))
 
+-- the file of the best shape within the limits, whose angles and right bends are named
 abbrev pub BestBytes : List ℕ → (List ℕ → List ℕ → List ℕ → Type 0) → Type 0
 BestBytes s f =
     let p = plateOf s in
@@ -52,13 +50,12 @@ anglesIn t = contentOf 19 (walkAll true t .fields)
 abbrev pub rightsIn : List ℕ → List ℕ
 rightsIn t = contentOf 20 (walkAll true t .fields)
 
--- of the shape file against the fields of its list, and behind its total's the one given
-abbrev pub fileFaultBy : List Field → List ℕ → ℕ → ℕ
-fileFaultBy fs t last =
+-- by the walk of the shape file, against the fields of its list, and behind its total's the one given
+abbrev pub fileFaultBy : List Field → Walk → ℕ → ℕ
+fileFaultBy fs w last =
     let p = plateIn fs in
-    let w = walkAll true t in
-    let a = anglesIn t in
-    let r = rightsIn t in
+    let a = contentOf 19 (w .fields) in
+    let r = contentOf 20 (w .fields) in
     let ws = shapeOf p a r .words in
     firstOf (w .number)
     (firstOf (when (not (eqb (length a) (darts p) && eqb (length r) (darts p))) 17)
@@ -69,7 +66,7 @@ fileFaultBy fs t last =
     (firstOf (when (not (eqb (word (contentOf 18 (w .fields))) (total r))) 22) last))))))
 
 abbrev pub fileFault : List ℕ → List ℕ → ℕ
-fileFault s t = fileFaultBy (walkAll false s .fields) t (when (not (allWithin (limitsOf s) (pairSums (rightsIn t)))) 25)
+fileFault s t = fileFaultBy (walkAll false s .fields) (walkAll true t) (when (not (allWithin (limitsOf s) (pairSums (rightsIn t)))) 25)
 
 abbrev pub checkFault : List ℕ → List ℕ → ℕ
 checkFault s t = firstOf (listFault s) (fileFault s t)
@@ -128,8 +125,8 @@ pub record Files : Type 0 where
   pub same-shape : Same-shape
   pub written-verdict : Written-verdict
   pub list-longest : (s : List ℕ) → listFault s ≡ 0 → length s ≤ 745
+  pub file-longest : (s : List ℕ) → listFault s ≡ 0 → fileLong s ≤ 528
   -- of longer input the first 748 bytes have the number of the whole
   pub front : (n : ℕ) (s t : List ℕ) → 748 ≤ n → (listFault (take n s) ≡ listFault s) × (checkFault (take n s) (take n t) ≡ checkFault s t)
-  pub file-long : (s : List ℕ) → listFault s ≡ 0 → fileLong s ≡ 16 + 4 * strips (plateOf s) + remarkLong (walkAll false s .fields)
   pub file-bytes : (s a r : List ℕ) → listFault s ≡ 0 → allBytes s ≡ true → C.BestOf s (shapeOf (plateOf s) a r) → rightsOf (shapeOf (plateOf s) a r .words) ≡ r
       → allBytes (shapeBytes (walkAll false s .fields) (shapeOf (plateOf s) a r)) ≡ true

@@ -1,7 +1,7 @@
 -- What the two conversions promise: a shape file to its text, and a text back to a shape file; and what holds of both together.
 use mathlib.Core.Path.{_≡_}
 use mathlib.Core.Bool.{Bool, true, false, _&&_, not}
-use mathlib.Core.List.{List, []}
+use mathlib.Core.List.{List, [], _++_}
 use Prim.Native.Nat.{ℕ, zero, suc, _≤_}
 use lib.Dec.{ltb}
 use lib.ListN.{length, take}
@@ -13,6 +13,7 @@ use Rattle.plates.specs.Files.{walkAll, listFault, plateOf, limitsOf, fi
 use Rattle.plates.specs.Claims.{BestOf}
 use Rattle.plates.specs.Says.{over, allBytes, fileLong, anglesIn, rightsIn, checkFault, ShapeSays}
 use Rattle.plates.specs.Grammar.{formOk, entriesIn, Exact}
+use Rattle.plates.specs.Ordering.{fieldOf, bytesIn}
 use Rattle.plates.specs.Lines.{By-faces, faceEntries, faceText, sameFaces, someMixed, wordsBy, anglesBy, bothWays}
 
 -- the text of the shape that a file t stores for a list s
@@ -57,7 +58,7 @@ placedFault p ls t =
 abbrev pub textFault : List ℕ → List ℕ → ℕ
 textFault s t = firstOf (listFault s) (placedFault (plateOf s) (limitsOf s) t)
 
--- the shape file that a text gives, with the list's revision and remark
+-- the shape file that a text gives, with the list's revision
 abbrev pub bytesRead : List ℕ → List ℕ → List ℕ
 bytesRead s t = fileBytes (walkAll false s .fields) (anglesRead s t) (rightsOf (wordsRead s t))
 
@@ -85,6 +86,10 @@ pub record WentBack (s t b : List ℕ) : Type 0 where
   pub rights : rightsIn b ≡ rightsOf (wordsRead s t)
   pub text : fileText s b ≡ t
 
+-- the remark of a shape file as it stands at its end, or nothing
+abbrev pub remarkIn : List ℕ → List ℕ
+remarkIn t = bytesIn (fieldOf 21 (walkAll true t .fields))
+
 -- how long a text is at most
 pub record Text-short : Type 0 where
   -- of a sound file that bends no strip both ways
@@ -99,6 +104,8 @@ pub record RoundTrips : Type 0 where
   pub back-and-to : (s t : List ℕ) → textFault s t ≡ 0 → WentBack s t (bytesRead s t)
   -- the length of a written file is the one that 16 asks for
   pub bytes-long : (s t : List ℕ) → textFault s t ≡ 0 → length (bytesRead s t) ≡ fileLong s
+  -- of a sound file that bends no strip both ways every byte comes back but for its remark; without one, the whole file
+  pub byte-for-byte : (s t : List ℕ) → allBytes s ≡ true → allBytes t ≡ true → checkFault s t ≡ 0 → bothWays (rightsIn t) ≡ false → bytesRead s (fileText s t) ++ remarkIn t ≡ t
   -- our own files, with the list that they were written from: byte for byte
   pub ours : (s a r : List ℕ) → listFault s ≡ 0 → allBytes s ≡ true → BestOf s (shapeOf (plateOf s) a r) → rightsOf (shapeOf (plateOf s) a r .words) ≡ r
       → let b = shapeBytes (walkAll false s .fields) (shapeOf (plateOf s) a r) in
@@ -109,6 +116,9 @@ pub record Called : Type 0 where
   -- to text and back
   pub to-and-back : (s t o o′ m m′ : List ℕ) (w : Listed) (r : Shaped) → allBytes t ≡ true → WriteSays s t o o′ w → w .number ≡ 0 → fileLong s ≤ length m → ReadSays s (take (w .long) o′) m m′ r
       → let b = take (r .long) m′ in (r .number ≡ 0) × (checkFault s b ≡ 0) × (anglesIn b ≡ anglesIn t) × (rightsIn b ≡ rightsIn t)
+  -- byte for byte, but for the file's remark
+  pub byte-for-byte : (s t o o′ m m′ : List ℕ) (w : Listed) (r : Shaped) → allBytes s ≡ true → allBytes t ≡ true → WriteSays s t o o′ w → w .number ≡ 0 → fileLong s ≤ length m → ReadSays s (take (w .long) o′) m m′ r
+      → take (r .long) m′ ++ remarkIn t ≡ t
   -- back and to text
   pub back-and-to : (s t o o′ m m′ : List ℕ) (r : Shaped) (w : Listed) → ReadSays s t o o′ r → r .number ≡ 0 → length t ≤ length m → WriteSays s (take (r .long) o′) m m′ w → (w .number ≡ 0) × (take (w .long) m′ ≡ t)
   -- a shape that was written, to text and back

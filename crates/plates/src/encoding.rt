@@ -1,31 +1,14 @@
 //! The fields of a shape file, written one behind the other into lent memory.
 ghost use mathlib.Core.Path.{_≡_};
-ghost use mathlib.Core.Bool.{false};
 ghost use lib.ListN.{length};
-ghost use Rattle.fields.specs.Writing.{Written};
-ghost use Rattle.plates.specs.Files.{walkAll, remarkPart};
-ghost use Rattle.plates.specs.Says.{remarkLong, fileLong};
+ghost use Rattle.plates.specs.Says.{fileLong};
 ghost use Rattle.plates.specs.Read.{Walked};
-ghost use Rattle.plates.specs.Encodes.{FileGiven, ToWrite, FileWritten, RemarkRoom, FileSays, refusedShape};
+ghost use Rattle.plates.specs.Encodes.{FileGiven, ToWrite, FileWritten, FileSays, refusedShape};
 use crate::Shaped;
 use fields::Fields;
 use fields::content;
 use fields::writing::two_bytes;
 use fields::writing::write_field;
-
-// The length of the remark's field; 0 where the list has no remark.
-fn remark_long(list: &[u8], f: Fields) -> usize
-    requires { ⌜ Walked (now list) f ⌝ }
-    ensures { λ r. ⌜ r ≡ remarkLong (walkAll false (now (list .entry)) .fields) ⌝ }
-{
-    let is_there = f.seen[5];
-    if is_there {
-        let remark = content(list, f, 5);
-        3 + remark.len()
-    } else {
-        0
-    }
-}
 
 // The length of the shape file of a list that passed the walk.
 pub fn file_long(list: &[u8], f: Fields) -> usize
@@ -33,23 +16,7 @@ pub fn file_long(list: &[u8], f: Fields) -> usize
     ensures { λ r. ⌜ r ≡ fileLong (now (list .entry)) ⌝ }
 {
     let ends = content(list, f, 2);
-    let counts = 2 * ends.len();
-    let remark = remark_long(list, f);
-    16 + counts + remark
-}
-
-// Writes the remark's field from `at` on, if the list has a remark, and gives the place behind it.
-fn write_remark(list: &[u8], f: Fields, out: &mut [u8], at: usize) -> usize
-    requires { ⌜ RemarkRoom (now list) f at (length (now out)) ⌝ }
-    ensures { λ r. ⌜ Written at (remarkPart (walkAll false (now (list .entry)) .fields)) (now (out .entry)) (now (out .exit)) r ⌝ }
-{
-    let is_copied = f.seen[5];
-    if is_copied {
-        let remark = content(list, f, 5);
-        write_field(out, at, 0x15, remark)
-    } else {
-        at
-    }
+    16 + 2 * ends.len()
 }
 
 // Writes the shape file of these angles and right bends, `total` bends in all, and gives its length.
@@ -69,8 +36,7 @@ pub fn write_fields(
     let second = write_field(out, 0, 0x11, revision);
     let third = write_field(out, second, 0x12, &bends);
     let fourth = write_field(out, third, 0x13, angles);
-    let fifth = write_field(out, fourth, 0x14, rights);
-    write_remark(list, f, out, fifth)
+    write_field(out, fourth, 0x14, rights)
 }
 
 // A refusal: its number alone.

@@ -353,7 +353,7 @@ fn order_and_whole() {
 
 // What is copied, and what makes no difference.
 fn copies() {
-    // Tag 06 of the list gives tag 15 of the shape.
+    // The remark is passed over.
     shape(
         b"remark",
         b"\x01\x00\x02\x00\x07\x02\x00\x01\x02\x03\x00\x04\x00\x01\x00\x01\x04\x00\x04\x00\x02\x01\x03\x05\x00\x01\x01\x06\x00\x02\x48\x69",
@@ -390,16 +390,16 @@ fn memory() {
         b"\x01\x00\x02\x00\x07\x02\x00\x01\x02\x03\x00\x04\x00\x01\x00\x01\x04\x00\x04\x00\x02\x01\x03\x05\x00\x01\x01",
         &mut enough,
     );
-    // A remark of one byte takes four bytes more.
-    let mut near = [0xeeu8; 27];
+    // A remark takes no memory.
+    let mut near = [0xeeu8; 23];
     shape_into(
-        b"P1 and remark in 27",
+        b"P1 and remark in 23",
         b"\x01\x00\x02\x00\x07\x02\x00\x01\x02\x03\x00\x04\x00\x01\x00\x01\x04\x00\x04\x00\x02\x01\x03\x05\x00\x01\x01\x06\x00\x01\x41",
         &mut near,
     );
-    let mut just = [0xeeu8; 28];
+    let mut just = [0xeeu8; 24];
     shape_into(
-        b"P1 and remark in 28",
+        b"P1 and remark in 24",
         b"\x01\x00\x02\x00\x07\x02\x00\x01\x02\x03\x00\x04\x00\x01\x00\x01\x04\x00\x04\x00\x02\x01\x03\x05\x00\x01\x01\x06\x00\x01\x41",
         &mut just,
     );
@@ -845,7 +845,7 @@ fn back_p1(label: &[u8], text: &[u8]) {
     );
 }
 
-// Both ways: P1, P2, a strip to itself, a shape that is not ours, a remark.
+// Both ways: P1, P2, a strip to itself, a shape that is not ours; remarks of a file and of a list, which are passed over.
 fn texts() {
     text_p1(
         b"P1",
@@ -864,6 +864,10 @@ fn texts() {
     text_p1(
         b"P1, bends on dart 0",
         b"\x11\x00\x02\x00\x07\x12\x00\x02\x00\x02\x13\x00\x04\x01\x03\x03\x01\x14\x00\x04\x02\x00\x00\x00",
+    );
+    text_p1(
+        b"P1, with remark",
+        b"\x11\x00\x02\x00\x07\x12\x00\x02\x00\x02\x13\x00\x04\x01\x03\x03\x01\x14\x00\x04\x00\x00\x00\x02\x15\x00\x01\x41",
     );
     back_p1(b"P1", b"1 - 3 2 11 3\n0 - 1 3 00 1\n");
     back_p1(b"P1, bends on dart 0", b"1 11 3 2 - 3\n0 00 1 3 - 1\n");

@@ -28,4 +28,5 @@ pub mod Tried
 pub mod Within
 pub mod Called
 pub mod FaceLists
+pub mod Remarks
 pub mod OneAnswer

@@ -1,7 +1,7 @@
 -- Both round trips over lists, shape files and texts. Assumes nothing.
 use mathlib.Core.Path.{_≡_, sym, ap, subst, _∙_}
 use mathlib.Core.Bool.{true, false}
-use mathlib.Core.List.{List}
+use mathlib.Core.List.{List, _++_}
 use Prim.Native.Nat.{ℕ, suc, _%_, _≤_, _<_, min}
 use native.Mathlib.Omega.{arith}
 use lib.ListN.{length, getD}
@@ -19,13 +19,15 @@ use Rattle.plates.specs.Claims.{BestOf}
 use Rattle.plates.specs.Says.{allBytes, fileLong, anglesIn, rightsIn, checkFault}
 use Rattle.plates.proofs.Lists.{list-accepted}
 use Rattle.plates.proofs.Sound.{sound-exactly}
-use Rattle.plates.proofs.ReadsBack.{written-reads-back, shape-bytes, rights-many}
+use Rattle.plates.proofs.ReadsBack.{written-reads-back, shape-bytes, rights-many, no-remark}
+use Rattle.plates.proofs.SoundBytes.{sound-bytes}
 use Rattle.plates.proofs.ListingShort.{byte-at}
 use Rattle.plates.proofs.FileBytes.{contents-bytes, shape-bytes-fit}
 use Rattle.plates.specs.Text.{allFormed}
 use Rattle.plates.specs.Grammar.{entriesIn}
 use Rattle.plates.specs.Lines.{faceText, wordOf, bothWays}
-use Rattle.plates.specs.Texts.{fileText, anglesRead, wordsRead, placedFault, textFault, bytesRead, CameBack, WentBack, RoundTrips, Text-short}
+use Rattle.plates.specs.Remarks.{NoRemark}
+use Rattle.plates.specs.Texts.{remarkIn, fileText, anglesRead, wordsRead, placedFault, textFault, bytesRead, CameBack, WentBack, RoundTrips, Text-short}
 use Rattle.texts.proofs.OneWay.{one-way, ways-none, word-long}
 use Rattle.texts.proofs.Grammar.{exact}
 use Rattle.texts.proofs.Refill.{word-fits, word-at, words-long}
@@ -84,6 +86,9 @@ module _ (s t : List ℕ) (bytes : allBytes t ≡ true) (none : checkFault s t �
     rights = ap rightsOf (words-come p acc a (x .words) (sound .1) straight few) ∙ counts;
   }
 
+  byte-for-byte : allBytes s ≡ true → bytesRead s (fileText s t) ++ remarkIn t ≡ t
+  byte-for-byte b = (λ i. fileBytes (walkAll false s .fields) (came-back .angles i) (came-back .rights i) ++ remarkIn t) ∙ sound-bytes s t b bytes none
+
   text-short-here : length (fileText s t) ≤ 66962
   text-short-here = text-most p acc a r (sound .0) one (λ d l. omega (arith, byte-at r d (contents-bytes true t bytes 20)))
 
@@ -136,6 +141,9 @@ module _ (s t : List ℕ) (none : textFault s t ≡ 0) where
     rights = back .2;
     text = (λ i. faceText p₂ (back .1 i) (shapeOf p₂ (back .1 i) (back .2 i) .words)) ∙ ap (λ (y : Shape). faceText p₂ a₂ (y .words)) counted ∙ text-again p₂ acc₂ t (placed .told);
   }
+
+  pub read-unremarked : NoRemark s (bytesRead s t)
+  read-unremarked = no-remark s a₂ r₂ good shape-meets counts-are
 
   accepted-short : length t ≤ 66962
   accepted-short =
@@ -199,6 +207,7 @@ round-trips = record {
   to-and-back = came-back;
   back-and-to = went-back;
   bytes-long = λ s t n. back s t n .3;
+  byte-for-byte = λ s t b c none one. byte-for-byte s t c none one b;
   ours = ours;
 }
 

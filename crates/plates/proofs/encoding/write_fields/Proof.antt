@@ -1,9 +1,9 @@
--- `plates::encoding::write_fields` writes five fields, each where the one before it ended. Assumes nothing.
+-- `plates::encoding::write_fields` writes four fields, each where the one before it ended. Assumes nothing.
 use mathlib.Core.Path.{refl, ap}
 use native.Mathlib.Omega.{arith}
 use lib.ListN.{length}
 use Rattle.plates.proofs.HeldLists.{walked-within}
-use Rattle.plates.proofs.FileRows.{revision-two, darts-most, file-written}
+use Rattle.plates.proofs.FileRows.{revision-two, darts-most, room-for, file-written}
 use borrow.Author.Needs.{needs}
 use Rattle.plates.proofs.encoding.write_fields.Statement.{statement}
 use Rattle.plates.proofs.encoding.write_fields.Tie as tie
@@ -15,50 +15,25 @@ two-bytes-requires : tie.Need-two-bytes-requires
 two-bytes-requires c κs = search needs
 
 write-field-requires : tie.Need-write-field-requires
-write-field-requires c κs = let two = revision-two (c .before .before .before .before .before .before .before .pre .given .walked) _ (c .before .before .content .ensures) in (omega (arith, c .before .before .before .before .before .before .before .pre .enough), omega arith)
+write-field-requires c κs = let two = revision-two (c .before .before .before .before .before .before .before .pre .given .walked) _ (c .before .before .content .ensures) in (omega (arith, room-for (c .before .before .before .before .before .before .before .pre)), omega arith)
 
 slice-aggregate-write-field : tie.Need-slice-aggregate-write-field
 slice-aggregate-write-field c = search needs
 
 write-field-requires-2 : tie.Need-write-field-requires-2
-write-field-requires-2 c κs =
-    let two = revision-two (c .before .before .before .before .before .before .before .before .before .before .before .before .pre .given .walked) _ (c .before .before .before .before .before .before .before .content .ensures) in
-    let sum = ap length (c .before .before .before .before .before .before .two-bytes .ensures) in
-    (omega (arith, c .before .before .before .before .before .before .before .before .before .before .before .before .pre .enough, c .before .before .before .before .write-field .ensures .behind, c .before .before .before .before .write-field .kept .0), omega arith)
+write-field-requires-2 c κs = let two = revision-two (c .before .before .before .before .before .before .before .before .before .before .before .before .pre .given .walked) _ (c .before .before .before .before .before .before .before .content .ensures) in let sum = ap length (c .before .before .before .before .before .before .two-bytes .ensures) in (omega (arith, room-for (c .before .before .before .before .before .before .before .before .before .before .before .before .pre), c .before .before .before .before .write-field .ensures .behind, c .before .before .before .before .write-field .kept .0), omega arith)
 
 write-field-requires-3 : tie.Need-write-field-requires-3
-write-field-requires-3 c κs =
-    let two = revision-two (c .before .before .before .before .before .before .before .before .before .before .before .before .before .before .before .before .pre .given .walked) _ (c .before .before .before .before .before .before .before .before .before .before .before .content .ensures) in
-    let sum = ap length (c .before .before .before .before .before .before .before .before .before .before .two-bytes .ensures) in (
-      omega (arith, c .before .before .before .before .before .before .before .before .before .before .before .before .before .before .before .before .pre .enough, c .before .before .before .before .before .before .before .before .before .before .before .before .before .before .before .before .pre .given .angles-many, c .before .before .before .before .before .before .before .before .write-field .ensures .behind, c .before .before .before .before .before .before .before .before .write-field .kept .0, c .before .before .before .write-field2 .ensures .behind, c .before .before .before .write-field2 .kept .0),
-      omega (arith, c .before .before .before .before .before .before .before .before .before .before .before .before .before .before .before .before .pre .given .angles-many, darts-most (c .before .before .before .before .before .before .before .before .before .before .before .before .before .before .before .before .pre .given .walked)),
-    )
+write-field-requires-3 c κs = let two = revision-two (c .before .before .before .before .before .before .before .before .before .before .before .before .before .before .before .before .pre .given .walked) _ (c .before .before .before .before .before .before .before .before .before .before .before .content .ensures) in let sum = ap length (c .before .before .before .before .before .before .before .before .before .before .two-bytes .ensures) in (omega (arith, room-for (c .before .before .before .before .before .before .before .before .before .before .before .before .before .before .before .before .pre), c .before .before .before .before .before .before .before .before .write-field .ensures .behind, c .before .before .before .before .before .before .before .before .write-field .kept .0, c .before .before .before .write-field2 .ensures .behind, c .before .before .before .write-field2 .kept .0), omega (arith, c .before .before .before .before .before .before .before .before .before .before .before .before .before .before .before .before .pre .given .angles-many, darts-most (c .before .before .before .before .before .before .before .before .before .before .before .before .before .before .before .before .pre .given .walked)))
 
 write-field-requires-4 : tie.Need-write-field-requires-4
-write-field-requires-4 c κs =
-    let two = revision-two (c .before .before .before .before .before .before .before .before .before .before .before .before .before .before .before .before .before .before .before .before .pre .given .walked) _ (c .before .before .before .before .before .before .before .before .before .before .before .before .before .before .before .content .ensures) in
-    let sum = ap length (c .before .before .before .before .before .before .before .before .before .before .before .before .before .before .two-bytes .ensures) in (
-      omega (arith, c .before .before .before .before .before .before .before .before .before .before .before .before .before .before .before .before .before .before .before .before .pre .enough, c .before .before .before .before .before .before .before .before .before .before .before .before .before .before .before .before .before .before .before .before .pre .given .angles-many, c .before .before .before .before .before .before .before .before .before .before .before .before .before .before .before .before .before .before .before .before .pre .given .rights-many, c .before .before .before .before .before .before .before .before .before .before .before .before .write-field .ensures .behind, c .before .before .before .before .before .before .before .before .before .before .before .before .write-field .kept .0, c .before .before .before .before .before .before .before .write-field2 .ensures .behind, c .before .before .before .before .before .before .before .write-field2 .kept .0, c .before .before .before .write-field3 .ensures .behind, c .before .before .before .write-field3 .kept .0),
-      omega (arith, c .before .before .before .before .before .before .before .before .before .before .before .before .before .before .before .before .before .before .before .before .pre .given .rights-many, darts-most (c .before .before .before .before .before .before .before .before .before .before .before .before .before .before .before .before .before .before .before .before .pre .given .walked)),
-    )
-
-write-remark-requires : tie.Need-write-remark-requires
-write-remark-requires c κs =
-    let two = revision-two (c .before .before .before .before .before .before .before .before .before .before .before .before .before .before .before .before .before .before .before .before .before .before .before .before .pre .given .walked) _ (c .before .before .before .before .before .before .before .before .before .before .before .before .before .before .before .before .before .before .before .content .ensures) in
-    let sum = ap length (c .before .before .before .before .before .before .before .before .before .before .before .before .before .before .before .before .before .before .two-bytes .ensures) in
-    record {
-      walked = c .before .before .before .before .before .before .before .before .before .before .before .before .before .before .before .before .before .before .before .before .before .before .before .before .pre .given .walked;
-      enough = omega (arith, c .before .before .before .before .before .before .before .before .before .before .before .before .before .before .before .before .before .before .before .before .before .before .before .before .pre .enough, c .before .before .before .before .before .before .before .before .before .before .before .before .before .before .before .before .before .before .before .before .before .before .before .before .pre .given .angles-many, c .before .before .before .before .before .before .before .before .before .before .before .before .before .before .before .before .before .before .before .before .before .before .before .before .pre .given .rights-many, c .before .before .before .before .before .before .before .before .before .before .before .before .before .before .before .before .write-field .ensures .behind, c .before .before .before .before .before .before .before .before .before .before .before .before .before .before .before .before .write-field .kept .0, c .before .before .before .before .before .before .before .before .before .before .before .write-field2 .ensures .behind, c .before .before .before .before .before .before .before .before .before .before .before .write-field2 .kept .0, c .before .before .before .before .before .before .before .write-field3 .ensures .behind, c .before .before .before .before .before .before .before .write-field3 .kept .0, c .before .before .before .write-field4 .ensures .behind, c .before .before .before .write-field4 .kept .0);
-    }
+write-field-requires-4 c κs = let two = revision-two (c .before .before .before .before .before .before .before .before .before .before .before .before .before .before .before .before .before .before .before .before .pre .given .walked) _ (c .before .before .before .before .before .before .before .before .before .before .before .before .before .before .before .content .ensures) in let sum = ap length (c .before .before .before .before .before .before .before .before .before .before .before .before .before .before .two-bytes .ensures) in (omega (arith, room-for (c .before .before .before .before .before .before .before .before .before .before .before .before .before .before .before .before .before .before .before .before .pre), c .before .before .before .before .before .before .before .before .before .before .before .before .write-field .ensures .behind, c .before .before .before .before .before .before .before .before .before .before .before .before .write-field .kept .0, c .before .before .before .before .before .before .before .write-field2 .ensures .behind, c .before .before .before .before .before .before .before .write-field2 .kept .0, c .before .before .before .write-field3 .ensures .behind, c .before .before .before .write-field3 .kept .0), omega (arith, c .before .before .before .before .before .before .before .before .before .before .before .before .before .before .before .before .before .before .before .before .pre .given .rights-many, darts-most (c .before .before .before .before .before .before .before .before .before .before .before .before .before .before .before .before .before .before .before .before .pre .given .walked)))
 
 same-length : tie.Need-same-length
 same-length c = search needs
 
 returns : tie.Need-returns
-returns c =
-    file-written (c .before .before .before .before .before .before .before .before .before .before .before .before .before .before .before .before .before .before .before .before .before .before .before .before .before .before .before .pre) _ (c .before .before .before .before .before .before .before .before .before .before .before .before .before .before .before .before .before .before .before .before .before .before .content .ensures) _ (c .before .before .before .before .before .before .before .before .before .before .before .before .before .before .before .before .before .before .before .before .before .two-bytes .ensures) refl
-    (c .before .before .before .before .before .before .before .before .before .before .before .before .before .before .before .before .before .before .before .write-field .ensures) (c .before .before .before .before .before .before .before .before .before .before .before .before .before .before .before .before .before .before .before .write-field .kept .0) (c .before .before .before .before .before .before .before .before .before .before .before .before .before .before .write-field2 .ensures) (c .before .before .before .before .before .before .before .before .before .before .before .before .before .before .write-field2 .kept .0)
-    (c .before .before .before .before .before .before .before .before .before .before .write-field3 .ensures) (c .before .before .before .before .before .before .before .before .before .before .write-field3 .kept .0) (c .before .before .before .before .before .before .write-field4 .ensures) (c .before .before .before .before .before .before .write-field4 .kept .0) (c .before .before .write-remark .ensures)
+returns c = file-written (c .before .before .before .before .before .before .before .before .before .before .before .before .before .before .before .before .before .before .before .before .before .before .before .pre) _ (c .before .before .before .before .before .before .before .before .before .before .before .before .before .before .before .before .before .before .content .ensures) _ (c .before .before .before .before .before .before .before .before .before .before .before .before .before .before .before .before .before .two-bytes .ensures) refl (c .before .before .before .before .before .before .before .before .before .before .before .before .before .before .before .write-field .ensures) (c .before .before .before .before .before .before .before .before .before .before .before .before .before .before .before .write-field .kept .0) (c .before .before .before .before .before .before .before .before .before .before .write-field2 .ensures) (c .before .before .before .before .before .before .before .before .before .before .write-field2 .kept .0) (c .before .before .before .before .before .before .write-field3 .ensures) (c .before .before .before .before .before .before .write-field3 .kept .0) (c .before .before .write-field4 .ensures)
 
 pub write-fields-spec : {M : Type 1} → statement M
 write-fields-spec =
@@ -71,6 +46,5 @@ write-fields-spec =
     write-field-requires-2
     write-field-requires-3
     write-field-requires-4
-    write-remark-requires
     same-length
     returns)
