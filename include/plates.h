@@ -91,8 +91,8 @@ enum plates_refusal {
  * plate: fewest bends, then fewest posts with exactly two strip ends and no
  * angle of 2, then the smaller right bends of darts 0, 1, 2 and so on, then
  * the smaller angles.
- * *long_ is 16 + 4 * strips, plus 3 and the remark's length if there is one;
- * 611 bytes are always enough. No accepted list is longer than 745 bytes.
+ * *long_ is 16 + 4 * strips; 528 bytes are always enough. A remark in the
+ * list, field 06, is passed over. No accepted list is longer than 745 bytes.
  *
  * 1 to 15, 23, 29: the plate list is refused. 24: no shape keeps its limits;
  * never for a list without field 07. 16: out_len is less than the length of
@@ -106,6 +106,7 @@ uint8_t plates_write_shape(const uint8_t *list, size_t list_len,
  * 0: the shape meets H1 to H4 and keeps the limits. *total is its total bends,
  * *fewest the least total bends of all such shapes of the plate, and *ours says
  * whether its angles and right bends are those that plates_write_shape writes.
+ * A remark in the shape file, field 15, is passed over.
  *
  * 1 to 15, 23, 29: the plate list is refused. 1 to 6 and 29 also: the shape
  * file is refused, after the plate list was accepted. 17 to 22, 25: as in the
@@ -140,9 +141,8 @@ uint8_t plates_write_listing(const uint8_t *list, size_t list_len,
  * line feed. There is no null byte.
  *
  * 0: the first *long_ bytes of `out` are the text and the bytes behind them are
- * as before. plates_read_text makes of it a shape file with the same angles and
- * right bends; one that plates_write_shape wrote for this list, byte for byte.
- * 66,962 bytes are always enough.
+ * as before. plates_read_text makes of it the shape file that it came from, byte
+ * for byte but for a remark, field 15. 66,962 bytes are always enough.
  *
  * 1 to 15, 17 to 23, 25, 29: as in plates_check_shape. Then 31: some strip
  * bends both ways; never in a file of plates_write_shape. Then 16: out_len is
@@ -153,13 +153,12 @@ uint8_t plates_write_text(const uint8_t *list, size_t list_len,
                           uint8_t *out, size_t out_len, size_t *long_);
 
 /* Writes the shape file that a text of faces gives to the front of `out`, with
- * the revision and the remark of the plate list.
+ * the revision of the plate list and no remark.
  *
  * 0: the first *long_ bytes of `out` are the shape file and the bytes behind
  * them are as before; *bends is its total bends. It is sound and bends no strip
  * both ways, and plates_write_text makes the same text of it. *long_ is
- * 16 + 4 * strips, plus 3 and the remark's length if there is one; 611 bytes
- * are always enough.
+ * 16 + 4 * strips; 528 bytes are always enough.
  *
  * 1 to 15, 23, 29: the plate list is refused. Then 30: some line is not of the
  * form above, or has a word of over 255 digits; a dart may be any number of

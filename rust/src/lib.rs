@@ -43,8 +43,8 @@ use std::error::Error;
 use std::fmt;
 
 /// Lent memory of this length is enough for the shape of every plate list:
-/// 16 bytes, 4 for each of 128 strips, and a remark of 80 bytes with its 3.
-pub const LONGEST_SHAPE: usize = 16 + 4 * 128 + 3 + 80;
+/// 16 bytes, and 4 for each of 128 strips.
+pub const LONGEST_SHAPE: usize = 16 + 4 * 128;
 
 /// Lent memory of this length is enough for the text of every shape file: the
 /// digits of the numbers 0 to 255, and for each of these darts a word of 255
@@ -77,10 +77,9 @@ pub struct Verdict {
 /// posts with exactly two strip ends and no angle of 2, then the smaller right
 /// bends of darts 0, 1, 2 and so on, then the smaller angles. Where the list
 /// has field 07, with the most bends of each strip or 255 for no limit, it is
-/// the best of the shapes within these limits. Its length is 16 + 4 · strips,
-/// plus 3 and the remark's length where there is a remark. The bytes of `out`
-/// behind the shape stay as they are. No accepted list is longer than 745
-/// bytes.
+/// the best of the shapes within these limits. Its length is 16 + 4 · strips.
+/// The bytes of `out` behind the shape stay as they are. A remark in the list,
+/// field 06, is passed over. No accepted list is longer than 745 bytes.
 ///
 /// # Errors
 /// Refusals 1 to 15, 23 and 29 for the plate list, then
@@ -127,7 +126,8 @@ pub fn write_shape(list: &[u8], out: &mut [u8]) -> Result<Shape, Refusal> {
     })
 }
 
-/// Gives a verdict on a shape file against a plate list.
+/// Gives a verdict on a shape file against a plate list. A remark in the shape
+/// file, field 15, is passed over.
 ///
 /// # Errors
 /// Refusals 1 to 15, 23 and 29 for the plate list; then 1 to 6, 29, 17 to 22
@@ -222,8 +222,8 @@ pub fn write_listing(list: &[u8], out: &mut [u8]) -> Result<usize, Refusal> {
 /// between two items, and each line ends with a line feed. The bytes of `out`
 /// behind the text stay as they are.
 ///
-/// [`read_text`] makes of the text a shape file with the same angles and right
-/// bends; one that [`write_shape`] wrote for this list, byte for byte.
+/// [`read_text`] makes of the text the shape file that it came from, byte for
+/// byte but for a remark, field 15.
 ///
 /// # Errors
 /// The refusals of [`check_shape`], then [`Refusal::MixedWord`] where some
@@ -271,12 +271,11 @@ pub fn write_text(list: &[u8], shape: &[u8], out: &mut [u8]) -> Result<usize, Re
 }
 
 /// Writes the shape file that a text of faces gives to the front of `out`, with
-/// the revision and the remark of the plate list.
+/// the revision of the plate list and no remark.
 ///
 /// The shape file is sound and bends no strip both ways, and [`write_text`]
-/// makes the same text of it. Its length is 16 + 4 · strips, plus 3 and the
-/// remark's length where there is a remark. The bytes of `out` behind it stay
-/// as they are.
+/// makes the same text of it. Its length is 16 + 4 · strips. The bytes of `out`
+/// behind it stay as they are.
 ///
 /// # Errors
 /// Refusals 1 to 15, 23 and 29 for the plate list; then, each over the whole

@@ -1,7 +1,8 @@
-//! Files of document 01 and requests E2 and E7: fields, refusals 1 to 25 and
+//! Files of document 01 and requests E2, E7 and E9: fields, refusals 1 to 25 and
 //! 29, shape files, listings, older files put in order.
 //! A refusal is its number.
 
+use crate::damage::split_fields;
 use crate::plate::{Plate, Shape};
 use std::collections::BTreeMap;
 
@@ -12,7 +13,6 @@ pub type Solver = fn(&Plate) -> Option<Shape>;
 #[derive(Debug)]
 pub struct List {
     pub revision: Vec<u8>,
-    pub remark: Option<Vec<u8>>,
     pub plate: Plate,
 }
 
@@ -143,7 +143,6 @@ pub fn read_list(file: &[u8]) -> Result<List, u8> {
     }
     Ok(List {
         revision: fields[&0x01].clone(),
-        remark: fields.remove(&0x06),
         plate,
     })
 }
@@ -240,13 +239,25 @@ pub fn shape_bytes(list: &List, shape: &Shape) -> Vec<u8> {
     push_field(&mut file, 0x12, &total.to_be_bytes());
     push_field(&mut file, 0x13, &bytes(&shape.angles));
     push_field(&mut file, 0x14, &bytes(&shape.rights));
-    if let Some(remark) = &list.remark {
-        push_field(&mut file, 0x15, remark);
-    }
     file
 }
 
-/// The file of a shape, with revision and remark of an accepted list.
+/// A shape file with a field 15 of this content behind its other fields.
+pub fn with_remark(file: &[u8], content: &[u8]) -> Vec<u8> {
+    let mut file = file.to_vec();
+    push_field(&mut file, 0x15, content);
+    file
+}
+
+/// A shape file for a list as it was written before request E9: with the
+/// remark of the list, if it has one.
+pub fn older_file(list: &[u8], file: &[u8]) -> Vec<u8> {
+    let fields = split_fields(list);
+    let remark = fields.iter().find(|field| field[0] == 0x06);
+    remark.map_or(file.to_vec(), |field| with_remark(file, &field[3..]))
+}
+
+/// The file of a shape, with the revision of an accepted list.
 pub fn file_of(list: &[u8], shape: &Shape) -> Vec<u8> {
     shape_bytes(&read_list(list).expect("the list is accepted"), shape)
 }

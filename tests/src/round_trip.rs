@@ -23,25 +23,20 @@ fn count<T>(met: &mut BTreeMap<u8, usize>, answer: &Result<T, u8>) -> u8 {
     number
 }
 
-/// A sound shape file with the remark of a list in place of its own.
-fn with_remark_of(list: &[u8], file: &[u8]) -> Vec<u8> {
-    let mut fields = split_fields(file);
-    fields.truncate(4);
-    let remark = split_fields(list).into_iter().find(|field| field[0] == 6);
-    fields.extend(remark.map(|field| [&[0x15], &field[1..]].concat()));
-    fields.concat()
+/// A sound shape file without its remark, if it has one.
+fn without_remark(file: &[u8]) -> Vec<u8> {
+    split_fields(file)[..4].concat()
 }
 
 impl Met {
     /// Compares a shape file to text and gives its number. A text that is
-    /// written comes back with the same angles and bends, byte for byte where
-    /// the file has the remark of the list.
+    /// written comes back as the file, byte for byte but for its remark.
     pub fn file(&mut self, list: &[u8], file: &[u8]) -> u8 {
         let text = compare::to_text(list, file);
         if let Ok(text) = &text {
             let back = compare::from_text(list, text.as_bytes());
             count(&mut self.back, &back);
-            assert_eq!(back, Ok(with_remark_of(list, file)), "{text}");
+            assert_eq!(back, Ok(without_remark(file)), "{text}");
         }
         count(&mut self.to, &text)
     }

@@ -1,9 +1,10 @@
-//! Damaged lists and shapes: numbers and memory must agree.
+//! Damaged lists and shapes, about half of both with a remark: numbers and memory
+//! must agree.
 
 use plates_tests::cancelling;
 use plates_tests::compare;
 use plates_tests::damage::{changed_once, cut_and_mixed, each_damaged};
-use plates_tests::files::{read_list, shape_bytes, with_limits};
+use plates_tests::files::{older_file, read_list, shape_bytes, with_limits};
 use plates_tests::long_mode;
 use plates_tests::plate::{Plate, Shape};
 use plates_tests::random::{any_plate, list_of, Random};
@@ -75,7 +76,7 @@ fn damaged_shapes() {
             0 => best_of(&read.plate),
             _ => cancelling::any(&read.plate),
         };
-        let file = shape_bytes(&read, &shape);
+        let file = older_file(&list, &shape_bytes(&read, &shape));
         each_damaged(&file, &mut random, &mut |damaged| {
             let number = compare::checking(&list, damaged, cancelling::best);
             numbers[usize::from(number)] += 1;
@@ -95,7 +96,7 @@ fn damaged_lists_with_shapes() {
         let mut random = Random::new(4_000_000 + seed);
         let list = random_list(size(seed), &mut random);
         let read = read_list(&list).expect("the plate is plane");
-        let file = shape_bytes(&read, &best_of(&read.plate));
+        let file = older_file(&list, &shape_bytes(&read, &best_of(&read.plate)));
         let mut other = Random::new(seed);
         each_damaged(&list, &mut random, &mut |damaged| {
             let mut shape = file.clone();
@@ -120,7 +121,7 @@ fn every_random_plate_damaged() {
         let mut random = Random::new(seed);
         let list = random_list(64, &mut random);
         let read = read_list(&list).expect("the plate is plane");
-        let file = shape_bytes(&read, &best_of(&read.plate));
+        let file = older_file(&list, &shape_bytes(&read, &best_of(&read.plate)));
         let mut shaping = |damaged: &[u8]| {
             numbers[usize::from(compare::shaping_longer(damaged, cancel_once))] += 1;
         };
@@ -198,7 +199,8 @@ fn damaged_limits() {
             shape.rights[0] += 1;
             shape.rights[1] += 1;
         }
-        each_damaged(&shape_bytes(&read, &shape), &mut random, &mut |damaged| {
+        let file = older_file(&list, &shape_bytes(&read, &shape));
+        each_damaged(&file, &mut random, &mut |damaged| {
             numbers[1][usize::from(compare::checking(&list, damaged, cancel_once))] += 1;
         });
     }

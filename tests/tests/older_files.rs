@@ -3,13 +3,13 @@
 
 use plates_tests::compare;
 use plates_tests::damage::{changed_once, cut_and_mixed, split_fields};
-use plates_tests::files::{list_bytes, read_list, shape_bytes};
+use plates_tests::files::{list_bytes, older_file, read_list, shape_bytes};
 use plates_tests::long_mode;
 use plates_tests::plate::Plate;
 use plates_tests::random::{any_plate, list_of, Random};
 use plates_tests::remembered::cancel_once;
 
-/// A sound list with its shape file.
+/// A sound list with its shape file, which has the list's remark.
 struct Pair {
     list: Vec<u8>,
     shape: Vec<u8>,
@@ -19,7 +19,7 @@ impl Pair {
     fn of(list: Vec<u8>) -> Pair {
         let read = read_list(&list).expect("the plate is plane");
         let shape = cancel_once(&read.plate).expect("the plate has a shape within its limits");
-        let shape = shape_bytes(&read, &shape);
+        let shape = older_file(&list, &shape_bytes(&read, &shape));
         Pair { list, shape }
     }
 

@@ -4,7 +4,7 @@
 
 use plates_tests::compare;
 use plates_tests::damage::each_damaged;
-use plates_tests::files::{list_bytes, read_list, shape_bytes, List};
+use plates_tests::files::{list_bytes, older_file, read_list, shape_bytes, with_remark, List};
 use plates_tests::long_mode;
 use plates_tests::near::Near;
 use plates_tests::plate::{by_number, twin, Plate, Shape};
@@ -191,23 +191,13 @@ fn near_files(case: &Case, random: &mut Random, met: &mut Met) -> usize {
     others
 }
 
-/// The file with another remark, or none.
-fn with_another_remark(file: &[u8], darts: usize, random: &mut Random) -> Vec<u8> {
-    let mut file = file[..16 + 2 * darts].to_vec();
-    if random.below(3) > 0 {
-        let length = random.below(81);
-        file.extend([0x15, 0, length as u8]);
-        file.extend(random.bytes(length));
-    }
-    file
-}
-
-/// Files of the shape: as it is, with another remark, with a strip bent both
-/// ways, and with a count, an angle, the total or the revision changed.
+/// Files of the shape: as it is, with a remark, with a strip bent both ways, and
+/// with a count, an angle, the total or the revision changed.
 fn files_of(case: &Case, random: &mut Random) -> Vec<Vec<u8>> {
     let darts = case.read.plate.darts();
     let sound = shape_bytes(&case.read, &case.shape);
-    let mut files = vec![with_another_remark(&sound, darts, random)];
+    let length = random.below(81);
+    let mut files = vec![with_remark(&sound, &random.bytes(length))];
     let dart = random.below(darts);
     let mut changed = |change: &dyn Fn(&mut Shape, u32)| {
         let mut shape = case.shape.clone();
@@ -298,7 +288,7 @@ fn damaged_lists_and_files() {
     for seed in 0..how_many(60, 1_000) {
         let mut random = Random::new(12_000_000 + seed as u64);
         let case = random_case(3 + seed % 5, &mut random);
-        let file = shape_bytes(&case.read, &case.shape);
+        let file = older_file(&case.list, &shape_bytes(&case.read, &case.shape));
         let text = text_of(&case.read.plate, &case.shape);
         each_damaged(&case.list, &mut random, &mut |list| {
             met.file(list, &file);
