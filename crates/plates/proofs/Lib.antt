@@ -28,4 +28,5 @@ pub mod Loops
 pub mod Joints
 pub mod Limits
 pub mod PassedOver
+pub mod OlderFiles
 pub mod SoundBytes

@@ -13,7 +13,8 @@ use Rattle.plates.specs.Claims.{BestOf}
 use Rattle.plates.specs.Says.{allBytes, ShapeSays}
 use Rattle.plates.specs.Texts.{textFault, bytesRead, ReadSays}
 use Rattle.plates.specs.Remarks.{OnlyRemark, NoRemark, OlderFile, Remarks}
-use Rattle.plates.proofs.PassedOver.{lists, files, kept, older-only}
+use Rattle.plates.proofs.PassedOver.{lists, files}
+use Rattle.plates.proofs.OlderFiles.{kept, older-only}
 use Rattle.plates.proofs.ReadsBack.{no-remark, shape-bytes}
 use Rattle.plates.proofs.Verdicts.{same-counts}
 use Rattle.texts.proofs.RoundTrips.{round-trips, read-unremarked}
