@@ -153,9 +153,9 @@ module _ (k : Bool) (fs : List Field) (c y : List ℕ) where
   same-there : (ms : List Field) → allThere k (fs ++ (f ∷ ms)) ≡ allThere k (fs ++ ms)
   same-there ms = there-besides k (fs ++ (f ∷ ms)) (fs ++ ms) (same-besides f fs ms)
 
-  -- no tag above the remark's is among fields that ascend up to it
-  low-absent : (ms : List Field) → ascends 0 (fs ++ ms) ≡ true → lastTag have ≤ r → (u : ℕ) → r < u → hasTag u have ≡ false
-  low-absent ms a l u h = ap (hasTag u) have-all ∙ above-last 0 fs (ascends-front 0 fs ms a) u (omega (arith, ap lastTag have-all))
+  -- no tag above the last one is among fs, if they ascend
+  above-have : (ms : List Field) → ascends 0 (fs ++ ms) ≡ true → (u : ℕ) → lastTag fs < u → hasTag u have ≡ false
+  above-have ms a u l = ap (hasTag u) have-all ∙ above-last 0 fs (ascends-front 0 fs ms a) u l
 
   -- taken with the remark
   module _ (e : walkAll k (remarked k fs c y) .number ≡ 0) where
@@ -186,7 +186,7 @@ module _ (k : Bool) (fs : List Field) (c y : List ℕ) where
     run-without : Run true k [] (bytesIn fs ++ y) (fs ++ ms)
     run-without =
         let up : ascends r ms ≡ true = subst (λ (p : ℕ). ascends p ms ≡ true) (last-add have f) (run-ascends (addField have f) y ms (here .run)) in
-        front .again y ms (run-above r (addField have f) have y ms (here .run) up low (low-absent (front .behind) rises low))
+        front .again y ms (run-above r (addField have f) have y ms (here .run) up low (λ u l. above-have (front .behind) rises u (omega (arith, low, ap lastTag have-all))))
 
     pub removed : OnlyRemark k (remarked k fs c y) (bytesIn fs ++ y)
     removed =
@@ -205,7 +205,7 @@ module _ (k : Bool) (fs : List Field) (c y : List ℕ) where
     ns = rest .behind
 
     absent : (u : ℕ) → lastTag fs < u → hasTag u have ≡ false
-    absent u l = ap (hasTag u) have-all ∙ above-last 0 fs (ascends-front 0 fs ns (subst (λ (l : List Field). ascends 0 l ≡ true) (rest .all) (run-ascends [] (bytesIn fs ++ y) (w′ .more) (w′ .run)))) u l
+    absent = above-have ns (subst (λ (l : List Field). ascends 0 l ≡ true) (rest .all) (run-ascends [] (bytesIn fs ++ y) (w′ .more) (w′ .run)))
 
     -- what is behind it is above it
     later : (ms : List Field) → Run true k have y ms → (length y ≡ 0) ⊎ (r < getD y 0 0) → ascends r ms ≡ true

@@ -20,7 +20,7 @@ use Rattle.plates.proofs.Verdicts.{same-counts}
 use Rattle.texts.proofs.RoundTrips.{round-trips, read-unremarked}
 use Rattle.texts.proofs.Called.{shape-given, read-passed, file-given}
 
--- two answers of shaping for one list, whatever memory was lent to each: one file
+-- shaping's answers to two such lists, whatever memory was lent for each: one file
 equal-files : (s t o o′ m m′ : List ℕ) (r q : Shaped) → OnlyRemark false s t → ShapeSays s o o′ r → ShapeSays t m m′ q → r .number ≡ 0 → q .number ≡ 0 → take (r .long) o′ ≡ take (q .long) m′
 equal-files s t o o′ m m′ r q h x y z w =
     let g = shape-given s o o′ r x z in
