@@ -1,0 +1,3 @@
+-- Maps on surfaces: the definitions.
+pub mod Maps
+pub mod Surgery

@@ -1,0 +1,1 @@
+// Mathematics only: the definitions are in specs/, the theorems in proofs/.
