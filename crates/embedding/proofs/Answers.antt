@@ -55,13 +55,13 @@ reads-only p r s h k = λ i. record { number = (h .number ∙ sym (k .number)) i
     same (inr n) = read-blank p r h n ∙ sym (read-blank p s k (λ e. n (h .number ∙ sym (k .number) ∙ e)))
 
 -- a face's number leads back to its lowest dart
-place-hit : (x y : ℕ) (ys : List ℕ) → x ≡ y → placeOf x (y ∷ ys) ≡ 0
+pub place-hit : (x y : ℕ) (ys : List ℕ) → x ≡ y → placeOf x (y ∷ ys) ≡ 0
 place-hit x y ys e = ap (λ (b : Bool). elim b as (λ b. ℕ) [ true ↦ 0 | false ↦ suc (placeOf x ys) ]) (eq-eqb x y e)
 
-place-miss : (x y : ℕ) (ys : List ℕ) → (x ≡ y → ⊥) → placeOf x (y ∷ ys) ≡ suc (placeOf x ys)
+pub place-miss : (x y : ℕ) (ys : List ℕ) → (x ≡ y → ⊥) → placeOf x (y ∷ ys) ≡ suc (placeOf x ys)
 place-miss x y ys e = ap (λ (b : Bool). elim b as (λ b. ℕ) [ true ↦ 0 | false ↦ suc (placeOf x ys) ]) (ne-eqb x y e)
 
-place-in : (x : ℕ) (ys : List ℕ) → isIn x ys ≡ true → (placeOf x ys < length ys) × (getD ys (placeOf x ys) 0 ≡ x)
+pub place-in : (x : ℕ) (ys : List ℕ) → isIn x ys ≡ true → (placeOf x ys < length ys) × (getD ys (placeOf x ys) 0 ≡ x)
 place-in x [] e = absurd (in-none x e)
 place-in x (y ∷ ys) e =
     ⊎-elim (λ q. (omega (arith, place-hit x y ys q), ap (λ (k : ℕ). getD (y ∷ ys) k 0) (place-hit x y ys q) ∙ sym q))

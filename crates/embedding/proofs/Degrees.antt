@@ -1,15 +1,16 @@
--- Each post of a plate without fault has one to four strip ends.
+-- Each post of a plate without fault has one to four strip ends, and what else makes a plate without fault.
 use mathlib.Core.Path.{_≡_, refl, sym, ap, _∙_}
 use mathlib.Core.Bool.{Bool, true, false, _&&_, _||_, not}
-use Prim.Native.Nat.{ℕ, suc, _*_, _≤_, _<_}
+use Prim.Native.Nat.{ℕ, suc, _+_, _*_, _≤_, _<_}
 use native.Mathlib.Decide.{decLt}
 use native.Mathlib.Omega.{arith}
 use borrow.Author.Tests.{eqb-true, eq-eqb, ltb-false, le-ltb, not-true}
 use lib.Dec.{eqb, ltb}
+use lib.ListN.{length}
 use Rattle.finite.proofs.Members.{all-in, getD-in}
 use Rattle.finite.proofs.Sums.{sumBelow, sum-cong, sum-ones, sum-constant, sum-count, sum-has, sum-le}
 use Rattle.finite.proofs.Tests.{not-of-false, from-each, each-from, eqb-turned}
-use Rattle.embedding.specs.Plates.{when, Plate, darts, leaves, endsAt, degree, overFour}
+use Rattle.embedding.specs.Plates.{when, Plate, darts, strips, leaves, endsAt, degree, overFour, faces, connected}
 use Rattle.embedding.proofs.Rotation.{Ordered, degree-count}
 use Rattle.embedding.proofs.Reach.{spreads}
 use Rattle.embedding.proofs.Faultless.{Faultless}
@@ -66,6 +67,23 @@ module _ (p : Plate) where
   most-over n h =
       not-true (overFour n 0 p)
       (each-from (λ n a. not (overFour n a p)) few (λ a. refl) (λ n a. not-or (ltb 4 (degree p a)) (overFour n (suc a) p)) n 0 (λ v l k. not-of-false (le-ltb 4 (degree p v) (h v (omega arith)))))
+
+-- a plate in order, with a dart, four places at most, an outer dart, connected and plane
+pub faultless-of : (p : Plate) → Ordered p → 0 < p .posts → p .posts ≤ 64 → 0 < darts p → ((v : ℕ) → v < p .posts → degree p v ≤ 4) → p .outer < darts p → connected p ≡ true
+    → p .posts + length (faces p) ≡ strips p + 2 → Faultless p
+faultless-of p o some most darts-some four outer linked plane =
+    record {
+      some-post = λ e. omega arith;
+      posts-most = most;
+      some-dart = λ e. omega arith;
+      ends-below = o .ends-below;
+      four-most = most-over p (p .posts) four;
+      all-ordered = o .all-ordered;
+      parts-ok = o .parts-ok;
+      outer-dart = outer;
+      is-connected = linked;
+      euler = plane;
+    }
 
 module _ (p : Plate) (f : Faultless p) where
   pub degree-most : (v : ℕ) → v < p .posts → degree p v ≤ 4

@@ -163,6 +163,10 @@ module _ (p : Plate) (o : Ordered p) where
       (sym (by-orbit (λ F. isLowest d (F d) && isIn e (F d) ≡ eqb d (lowest e (F e))) (leads (after p) (darts p) (after-one-to-one p o) d e (faces-below p d i) k))
       ∙ and-both (isLowest d (faceOf p d)) (isIn e (faceOf p d)) (faces-lowest p d i) h)
 
+  -- darts with one lead are in one face
+  pub same-face : (d e : ℕ) → d < darts p → e < darts p → lead p e ≡ lead p d → isIn e (faceOf p d) ≡ true
+  same-face d e l k q = face-same d l (lead p d) (lead-in-face d l) e ∙ subst (λ (u : ℕ). isIn e (faceOf p u) ≡ true) q (lead-face e k)
+
   -- each dart lies in one face
   pub faces-sum : (g : ℕ → ℕ) → sumOver (faces p) (λ d. sumOver (faceOf p d) g) ≡ sumBelow (darts p) g
   faces-sum g =

@@ -1,8 +1,8 @@
--- What a plate without fault has.
+-- What a plate without fault has, and that what has it is one.
 use mathlib.Core.Path.{_≡_}
 use mathlib.Core.Bool.{true, false, _&&_, _||_}
 use Prim.Native.Nat.{_+_, _%_, _≤_, _<_}
-use borrow.Author.Tests.{eqb-true, eqb-false, ltb-false, leb-false, not-false}
+use borrow.Author.Tests.{eqb-true, eqb-false, eq-eqb, ne-eqb, ltb-false, le-ltb, leb-false, lt-leb, not-false}
 use lib.Dec.{eqb, ltb, leb}
 use lib.ListN.{length}
 use Rattle.finite.proofs.Tests.{and-left, and-right, or-left-false, or-right-false, first-none, when-none}
@@ -48,3 +48,7 @@ faultless p e =
 
 pub ordered : (p : Plate) → darts p % 2 ≡ 0 → Faultless p → Ordered p
 ordered p e f = record { even = e; ends-below = f .ends-below; all-ordered = f .all-ordered; parts-ok = f .parts-ok }
+
+pub fault-free : (p : Plate) → Faultless p → plateFault p ≡ 0
+fault-free p f =
+    rw (ne-eqb (p .posts) 0 (f .some-post), le-ltb 64 (p .posts) (f .posts-most), ne-eqb (darts p) 0 (f .some-dart), f .ends-below, f .four-most, eq-eqb (length (p .order)) (darts p) (f .all-ordered), f .parts-ok, lt-leb (darts p) (p .outer) (f .outer-dart), f .is-connected, eq-eqb (p .posts + length (faces p)) (strips p + 2) (f .euler))

@@ -25,7 +25,7 @@ append-none (x ∷ xs) = ap (λ (r : List ℕ). x ∷ r) (append-none xs)
 
 -- walks of functions that agree below n
 module _ (f g : ℕ → ℕ) (n : ℕ) (agree : (x : ℕ) → x < n → f x ≡ g x) (below : (x : ℕ) → x < n → g x < n) where
-  walk-cong : (k s d : ℕ) → d < n → walk f k s d ≡ walk g k s d
+  pub walk-cong : (k s d : ℕ) → d < n → walk f k s d ≡ walk g k s d
   walk-cong zero s d l = refl
   walk-cong (suc k) s d l =
       ap (λ (y : ℕ). d ∷ elim (eqb y s) as (λ b. List ℕ) [ true ↦ [] | false ↦ walk f k s y ]) (agree d l)

@@ -85,7 +85,7 @@ pub rounding-done : {e l : List ℕ} {i : ℕ} {r : Seen} → Rounding e l i r �
 rounding-done {e} {l} {i} {r} h k = subst (λ (x : List ℕ). Marks x r) (sym (joins-short (drop i e) (h .posts) (omega (arith, length-drop i e))) ∙ h .rest) (h .marks)
 
 -- a round that adds no post changes nothing, and neither do the rounds after it
-one-grows : (a b : ℕ) (l : List ℕ) → length l ≤ length (joinOne a b l)
+pub one-grows : (a b : ℕ) (l : List ℕ) → length l ≤ length (joinOne a b l)
 one-grows a b l = go (isIn a l && not (isIn b l)) (isIn b l && not (isIn a l))
   where
     go : (u v : Bool) → length l ≤ length (pick u (b ∷ l) (pick v (a ∷ l) l))

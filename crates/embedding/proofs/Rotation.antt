@@ -128,7 +128,7 @@ module _ (p : Plate) where
   pub degree-count : (v : ℕ) → degree p v ≡ sumBelow (darts p) (λ i. when (eqb v (leaves p i)) 1)
   degree-count v = degree-sum v (p .ends) ∙ sum-over-places (p .ends) (λ e. when (eqb v e) 1)
 
-  before-count : (v : ℕ) → before p v ≡ sumBelow (darts p) (λ i. when (ltb (leaves p i) v) 1)
+  pub before-count : (v : ℕ) → before p v ≡ sumBelow (darts p) (λ i. when (ltb (leaves p i) v) 1)
   before-count zero = sym (sum-cong (darts p) (λ i. when (ltb (leaves p i) 0) 1) (λ i. 0) (λ i l. ap (λ (b : Bool). when b 1) (le-ltb (leaves p i) 0 zero-le)) ∙ sum-none (darts p))
   before-count (suc v) =
       omega (

@@ -102,7 +102,7 @@ module _ {p : Plate} {degrees : List ℕ} (h : PastOrder p degrees) (even : dart
 
   module _ {places : List ℕ} (t : Table 256 (placeIn p) places) where
     -- the places of a post hold its part
-    part-held : (v : ℕ) → v < p .posts → take (getD degrees v 0) (drop (4 * v) places) ≡ partOf p v
+    pub part-held : (v : ℕ) → v < p .posts → take (getD degrees v 0) (drop (4 * v) places) ≡ partOf p v
     part-held v l =
         ext-getD 0 (take (getD degrees v 0) (drop (4 * v) places)) (partOf p v)
         (omega (arith, size, length-part p in-order v, few-at few-posts few v l))

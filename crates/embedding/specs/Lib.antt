@@ -4,3 +4,6 @@ pub mod Loops
 pub mod Pass
 pub mod Steps
 pub mod Read
+pub mod Edits
+pub mod Arrays
+pub mod Journal

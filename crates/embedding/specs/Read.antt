@@ -2,7 +2,7 @@
 use mathlib.Core.Path.{_≡_}
 use mathlib.Core.Bool.{Bool, true, false}
 use mathlib.Core.List.{List, [], _∷_}
-use Prim.Native.Nat.{ℕ, suc, _+_, _≤_, _<_}
+use Prim.Native.Nat.{ℕ, suc, _+_, _%_, _≤_, _<_}
 use lib.Dec.{eqb, ltb}
 use lib.ListN.{length, getD, replicate}
 use Rattle.finite.specs.Tables.{Table, upTo}
@@ -71,6 +71,15 @@ pub record Stands (q : Held) (p : Plate) : Type 0 where
   pub face-numbers : Table 256 (upTo (darts p) (faceNumber p)) (q .face)
   pub face-count : q .faces ≡ length (faces p)
   pub face-sizes : Table 66 (upTo (length (faces p)) (faceSize p)) (q .sizes)
+
+-- a plate as an accepted list gives it: no fault, and two darts to a strip
+pub record Accepted (p : Plate) : Type 0 where
+  pub no-fault : plateFault p ≡ 0
+  pub even-darts : darts p % 2 ≡ 0
+
+-- a plate as held by code stands for an accepted one
+abbrev pub Standing : Held → Type 0
+Standing q = (p : Plate) × Stands q p × Accepted p
 
 -- a plate as held, put together from its parts
 pub record Assembled (n : ℕ) (e places degrees : List ℕ) (outer : ℕ) (next : List ℕ) (l : Labelled) (q : Held) : Type 0 where

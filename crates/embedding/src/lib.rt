@@ -17,6 +17,8 @@ use crate::strips::answer;
 use crate::strips::go_on;
 use crate::strips::no_strips;
 
+pub mod journal;
+
 // A plate without fault. The j-th dart of post v, clockwise, stands at 4 v + j of `places`; faces are numbered by their lowest darts.
 pub struct Plate {
     pub posts: usize,

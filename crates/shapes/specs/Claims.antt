@@ -3,12 +3,11 @@ use mathlib.Core.Path.{_≡_}
 use mathlib.Core.Logic.{_⊎_}
 use mathlib.Core.Bool.{Bool, true, _&&_}
 use mathlib.Core.List.{List, [], _∷_}
-use Prim.Native.Nat.{ℕ, zero, suc, _+_, _*_, _%_, _≤_}
+use Prim.Native.Nat.{ℕ, zero, suc, _+_, _*_, _≤_}
 use lib.Dec.{eqb, leb}
 use lib.ListN.{length, getD}
-use Rattle.embedding.specs.Read.{Stands}
-use Rattle.embedding.specs.declared.Plate.{Plate as Held}
-use Rattle.embedding.specs.Plates.{pick, when, isIn, Plate, darts, twin, endsAt, faces, faceOf, plateFault}
+pub use Rattle.embedding.specs.Read.{Accepted, Standing}
+use Rattle.embedding.specs.Plates.{pick, when, isIn, Plate, darts, twin, endsAt, faces, faceOf}
 use Rattle.shapes.specs.Shapes.{Shape, meets, bends, comesFirst, rightsOf, total, shapeOf}
 
 -- a shape that stands against every other: with no more bends, and the same or first among equally many
@@ -16,15 +15,6 @@ pub record Best (p : Plate) (s : Shape) : Type 0 where
   pub meets-all : meets p s ≡ true
   pub fewest : (u : Shape) → meets p u ≡ true → bends s ≤ bends u
   pub first : (u : Shape) → meets p u ≡ true → bends u ≡ bends s → (u ≡ s) ⊎ (comesFirst p s u ≡ true)
-
--- a plate as an accepted list gives it: no fault, and two darts to a strip
-pub record Accepted (p : Plate) : Type 0 where
-  pub no-fault : plateFault p ≡ 0
-  pub even-darts : darts p % 2 ≡ 0
-
--- a plate as held by code stands for an accepted one
-abbrev pub Standing : Held → Type 0
-Standing q = (p : Plate) × Stands q p × Accepted p
 
 -- each accepted plate has one, with the words that a file's counts give
 pub record Demand-3 : Type 0 where
