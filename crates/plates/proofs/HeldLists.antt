@@ -30,7 +30,7 @@ module _ {k : Bool} {s : List ℕ} {f : Fields} (w : WalkedFile k s f) where
   pub walked-content : (i : ℕ) → i < 7 → bytesOf s f i ≡ contentOf (tagAt k i) (walkAll k s .fields)
   walked-content i l = w .holds .slot i l .content ∙ ap (contentOf (tagAt k i)) all-kept
 
-  walked-there : (i : ℕ) → i < 7 → getD (f .seen) i false ≡ hasTag (tagAt k i) (walkAll k s .fields)
+  pub walked-there : (i : ℕ) → i < 7 → getD (f .seen) i false ≡ hasTag (tagAt k i) (walkAll k s .fields)
   walked-there i l = w .holds .slot i l .there ∙ ap (hasTag (tagAt k i)) all-kept
 
 module _ {s : List ℕ} {f : Fields} (w : Walked s f) where

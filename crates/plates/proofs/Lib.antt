@@ -27,6 +27,7 @@ pub mod Calls
 pub mod Loops
 pub mod Joints
 pub mod Limits
+pub mod Journal
 pub mod PassedOver
 pub mod OlderFiles
 pub mod SoundBytes

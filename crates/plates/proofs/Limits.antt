@@ -43,7 +43,7 @@ list-limits b e =
     let late = first-none (plateFault (plateOf b)) (limitsFault fs) (first-none (walkAll false b .number) _ e .1) .1 in
     not-false (limitsFit fs) (when-none (not (limitsFit fs)) 22 late)
 
-one-each : (b : List ℕ) → listFault b ≡ 0 → hasTag 7 (walkAll false b .fields) ≡ true → length (limitsOf b) ≡ strips (plateOf b)
+pub one-each : (b : List ℕ) → listFault b ≡ 0 → hasTag 7 (walkAll false b .fields) ≡ true → length (limitsOf b) ≡ strips (plateOf b)
 one-each b e h = eqb-true (length (limitsOf b)) (strips (plateOf b)) (or-second (not (hasTag 7 (walkAll false b .fields))) _ (list-limits b e) (ap not h))
 
 -- ---- 24, told from the answer

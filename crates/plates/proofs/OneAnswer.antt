@@ -80,7 +80,7 @@ check-with (suc f) s t r q (n, tot, few, ours) (m, tot′, few′, ours′) =
 pub check-only : (s t : List ℕ) (r q : Verdict) → CheckSays s t r → CheckSays s t q → r ≡ q
 check-only s t = check-with (checkFault s t) s t
 
-gives-only : (t u o o₁ o₂ : List ℕ) (r q : Listed) → t ≡ u → Gives t o o₁ r → Gives u o o₂ q → (o₁ ≡ o₂) × (r ≡ q)
+pub gives-only : (t u o o₁ o₂ : List ℕ) (r q : Listed) → t ≡ u → Gives t o o₁ r → Gives u o o₂ q → (o₁ ≡ o₂) × (r ≡ q)
 gives-only t u o o₁ o₂ r q e g h = go (ltb (length o) (length u)) (rw e at g) h
   where
     go : (b : Bool)

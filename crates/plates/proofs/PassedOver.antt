@@ -2,7 +2,7 @@
 -- so a remark makes no difference to them. Assumes nothing.
 use mathlib.Core.Path.{_≡_, sym, ap, subst, _∙_}
 use mathlib.Core.Bool.{Bool, true, false, _&&_, _||_, not}
-use mathlib.Core.List.{List, [], _∷_}
+use mathlib.Core.List.{List, [], _∷_, _++_}
 use Prim.Native.Nat.{ℕ, zero, suc}
 use native.Mathlib.Omega.{arith}
 use lib.Dec.{eqb, ltb}
@@ -11,7 +11,7 @@ use Rattle.fields.proofs.FrontField.{metField}
 use Rattle.plates.specs.declared.Shaped.{Shaped}
 use Rattle.plates.specs.declared.Verdict.{Verdict}
 use Rattle.plates.specs.declared.Listed.{Listed}
-use Rattle.plates.specs.Plates.{pickT, firstOf, when, darts, strips, plateFault}
+use Rattle.plates.specs.Plates.{pick, pickT, firstOf, when, darts, strips, plateFault}
 use Rattle.plates.specs.Shapes.{Shape, meets, rightsOf, total, same, pairSums, stripBends, allWithin, shapeOf}
 use Rattle.plates.specs.Files.{Field, Walk, walk, contentOf, walkAll, plateIn, listFault, plateOf, limitsOf, fileBytes, shapeBytes}
 use Rattle.plates.specs.Claims.{BestWithin}
@@ -20,6 +20,8 @@ use Rattle.plates.specs.Listing.{listingText, Gives, listingFault, Listi
 use Rattle.plates.specs.Grammar.{entriesIn}
 use Rattle.plates.specs.Lines.{faceText, wordsBy, anglesBy, bothWays}
 use Rattle.plates.specs.Texts.{fileText, writeFault, WriteWith, WriteSays, wordsRead, placedFault, bytesRead, readFault, ReadWith, ReadSays}
+use Rattle.plates.specs.Ordering.{bytesIn}
+use Rattle.plates.specs.Journal.{Step, stepFault, stepped, newLimit, plateFields, listAfter, editFault, EditWith, EditSays}
 use Rattle.plates.specs.Remarks.{OnlyRemark, SameAnswers, SameVerdicts}
 
 turned : {k : Bool} {s t : List ℕ} → OnlyRemark k s t → OnlyRemark k t s
@@ -129,6 +131,20 @@ module _ (s t : List ℕ) (h : OnlyRemark false s t) where
         read-with (readFault t u o) o o′ r
         (subst (λ (n : ℕ). ReadWith n s u o o′ r) (λ i. firstOf (firstOf (number-same i) (placedFault (plateIn (same-core i)) (contentOf 7 (same-core i)) u)) (when (ltb (length o) (fileLongIn (same-core i))) 16)) x)
 
+  -- a step
+  module _ (u : Step) where
+    after-same : listAfter s u ≡ listAfter t u
+    after-same =
+        let limited = h .besides .there 7 (λ z. omega arith) in
+        λ i. bytesIn (plateFields (contentOf 1 (same-core i)) (stepped (plateIn (same-core i)) u) (pick (limited i) (metField 7 (contentOf 7 (same-core i) ++ (newLimit (contentOf 7 (same-core i)) u ∷ [])) ∷ []) []))
+
+    edit-with : (n : ℕ) (o o′ : List ℕ) (w : Listed) → EditWith n s u o o′ w → EditWith n t u o o′ w
+    edit-with zero o o′ w x = subst (λ (b : List ℕ). Gives b o o′ w) after-same x
+    edit-with (suc n) o o′ w x = x
+
+    edit-to : (o o′ : List ℕ) (w : Listed) → EditSays s u o o′ w → EditSays t u o o′ w
+    edit-to o o′ w x = edit-with (editFault t u) o o′ w (subst (λ (n : ℕ). EditWith n s u o o′ w) (λ i. firstOf (number-same i) (stepFault (plateIn (same-core i)) u)) x)
+
 pub lists : (s t : List ℕ) → OnlyRemark false s t → SameAnswers s t
 lists s t h = record {
   number = number-same s t h;
@@ -137,6 +153,7 @@ lists s t h = record {
   listed = λ o o′ w. (listing-to s t h o o′ w, listing-to t s (turned h) o o′ w);
   to-text = λ u o o′ w. (write-to s t h u o o′ w, write-to t s (turned h) u o o′ w);
   from-text = λ u o o′ r. (read-to s t h u o o′ r, read-to t s (turned h) u o o′ r);
+  edited = λ u o o′ w. (edit-to s t h u o o′ w, edit-to t s (turned h) u o o′ w);
 }
 
 -- ---- shape files

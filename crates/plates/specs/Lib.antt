@@ -18,6 +18,7 @@ pub mod Text
 pub mod Grammar
 pub mod Lines
 pub mod Texts
+pub mod Journal
 pub mod Remarks
 pub mod Tried
 pub mod Books

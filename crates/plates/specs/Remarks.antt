@@ -16,6 +16,7 @@ use Rattle.plates.specs.Says.{allBytes, checkFault, ShapeSays, CheckSays
 use Rattle.plates.specs.Listing.{ListingSays}
 use Rattle.plates.specs.Ordering.{fieldOf, isShapeFile, orderedBytes}
 use Rattle.plates.specs.Texts.{fileText, bytesRead, WriteSays, ReadSays}
+use Rattle.plates.specs.Journal.{Step, EditSays}
 pub use Rattle.fields.specs.Remarks.{remarkTag, OnlyRemark, remarked, Passed-over}
 
 -- two lists that every call answers alike, whatever memory is lent
@@ -26,6 +27,7 @@ pub record SameAnswers (s t : List ℕ) : Type 0 where
   pub listed : (o o′ : List ℕ) (w : Listed) → ListingSays s o o′ w ↔ ListingSays t o o′ w
   pub to-text : (u o o′ : List ℕ) (w : Listed) → WriteSays s u o o′ w ↔ WriteSays t u o o′ w
   pub from-text : (u o o′ : List ℕ) (r : Shaped) → ReadSays s u o o′ r ↔ ReadSays t u o o′ r
+  pub edited : (u : Step) (o o′ : List ℕ) (w : Listed) → EditSays s u o o′ w ↔ EditSays t u o o′ w
 
 -- two shape files that get the same verdict and the same text against every list
 pub record SameVerdicts (t u : List ℕ) : Type 0 where

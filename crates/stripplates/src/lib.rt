@@ -4,9 +4,13 @@ ghost use Rattle.plates.specs.Listing.{ListingSays};
 ghost use Rattle.plates.specs.Answers.{shaped, verdict, listed, ordered};
 ghost use Rattle.plates.specs.Texts.{WriteSays, ReadSays};
 ghost use Rattle.plates.specs.Ordering.{OrderSays};
+ghost use Rattle.plates.specs.Journal.{EditSays, Split, Hang, Join};
 ghost use Rattle.plates.specs.Books.{RevisionIs};
 use book::Answer;
 use book::current_revision;
+use edits::hang_strip;
+use edits::join_darts;
+use edits::split_strip;
 use fields::ordering::order_fields;
 use plates::check_shape;
 use plates::write_listing;
@@ -98,6 +102,52 @@ pub extern "C" fn plates_order_fields(file: &[u8], out: &mut [u8], long: &mut us
     let o = order_fields(file, out);
     *long = o.long;
     o.number
+}
+
+// A step of the editor: a strip ends at a new post, and a new strip runs from there to its old end. The refusal's number, or 0 with the list after the step at the front of `out` and its length.
+#[no_mangle]
+pub extern "C" fn plates_split_strip(
+    list: &[u8],
+    strip: usize,
+    out: &mut [u8],
+    long: &mut usize,
+) -> u8
+    ensures { λ r. ⌜ EditSays (now (list .entry)) (Split strip) (now (out .entry)) (now (out .exit)) (listed r (now (long .exit))) ⌝ }
+{
+    let l = split_strip(list, strip, out);
+    *long = l.long;
+    l.number
+}
+
+// A new strip to a new post, in the corner where a dart ends.
+#[no_mangle]
+pub extern "C" fn plates_hang_strip(
+    list: &[u8],
+    dart: usize,
+    out: &mut [u8],
+    long: &mut usize,
+) -> u8
+    ensures { λ r. ⌜ EditSays (now (list .entry)) (Hang dart) (now (out .entry)) (now (out .exit)) (listed r (now (long .exit))) ⌝ }
+{
+    let l = hang_strip(list, dart, out);
+    *long = l.long;
+    l.number
+}
+
+// A new strip from the corner where a dart ends to the corner where another dart of its face ends.
+#[no_mangle]
+pub extern "C" fn plates_join_darts(
+    list: &[u8],
+    dart: usize,
+    other: usize,
+    out: &mut [u8],
+    long: &mut usize,
+) -> u8
+    ensures { λ r. ⌜ EditSays (now (list .entry)) (Join dart other) (now (out .entry)) (now (out .exit)) (listed r (now (long .exit))) ⌝ }
+{
+    let l = join_darts(list, dart, other, out);
+    *long = l.long;
+    l.number
 }
 
 // Books: the refusal's number, or 0 with the current revision of the model, 0 where the model is not there.

@@ -1,0 +1,3 @@
+-- What the steps over lists write and answer.
+pub mod WriteLaws
+pub mod EditLaws

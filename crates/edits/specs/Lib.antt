@@ -1,0 +1,2 @@
+-- What the code of the steps over lists is told.
+pub mod Writes
