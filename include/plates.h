@@ -1,6 +1,7 @@
 /* Strip plates: from a plate list to the shape with fewest bends; from a shape
  * file to its text of faces and back; from an older file to the same in tag
- * order; and from a book of entries to the current revision of a model.
+ * order; from a plate list and a step of the editor to the list after the step;
+ * and from a book of entries to the current revision of a model. Ten functions.
  *
  * Link with libstripplates.a (x86-64 Linux); it needs the C library only.
  *
@@ -27,8 +28,9 @@ extern "C" {
  * "File" is the plate list or, for plates_check_shape and plates_write_text, the
  * plate list first and then the shape, or for plates_order_fields the older
  * file, which 29 does not concern. plates_read_text tries 30, 31 and 32 straight
- * after the plate list, then 20, 21 and 25. 40 to 42 are
- * plates_current_revision's alone. */
+ * after the plate list, then 20, 21 and 25. 35 to 37 are given by
+ * plates_split_strip, plates_hang_strip and plates_join_darts alone, straight
+ * after the plate list. 40 to 42 are plates_current_revision's alone. */
 enum plates_refusal {
     PLATES_ACCEPTED = 0,
 
@@ -74,6 +76,12 @@ enum plates_refusal {
     PLATES_TEXT_FACES = 32,        /* faces, with their sequence and starts, that are not
                                       the plate's, or words that do not agree across a
                                       strip */
+
+    /* step of the editor */
+    PLATES_NO_SUCH_STEP = 35,      /* a strip or dart that is not there, or darts that are
+                                      equal or of two faces */
+    PLATES_PLATE_FULL = 36,        /* post 65 or strip 129 */
+    PLATES_POST_FULL = 37,         /* a fifth place at a post */
 
     /* book of entries: all three at one entry before the next entry */
     PLATES_ENTRY_CUT = 40,         /* the last entry has under six bytes */
@@ -186,6 +194,52 @@ uint8_t plates_read_text(const uint8_t *list, size_t list_len,
  * is 0. */
 uint8_t plates_order_fields(const uint8_t *file, size_t file_len,
                             uint8_t *out, size_t out_len, size_t *long_);
+
+/* The steps of the editor. Each reads a plate list with n posts and m strips and
+ * writes the list of the plate after the step to the front of `out`. A step makes
+ * strip m, with darts 2m and 2m + 1, and a split and a hang make post n too.
+ *
+ * 0: the first *long_ bytes of `out` are the list and the bytes behind them are
+ * as before. The list is accepted. It has the revision and the outer dart of the
+ * list before, its fields in tag order, and no remark. The face of the outer dart
+ * stays outer. Where the list before has limits, field 07, so has this one, with
+ * one byte more: a split gives the new strip the limit of the old one, and other
+ * new strips have 255. *long_ is 19 + 4 * strips, and 3 + strips more with
+ * limits, by the strips after the step; 662 bytes are always enough.
+ *
+ * 1 to 15, 23, 29: the plate list is refused. Then 35, 36 and 37 as told at each
+ * step. Then 16: out_len is less than the length of the list. On a refusal `out`
+ * is unchanged and *long_ is 0. A journal is replayed by giving each step the list
+ * that the step before it wrote; the list before a refused step is its end. */
+
+/* Splits a strip: it ends at the new post, and the new strip runs from there to
+ * its old end. Dart 2m + 1 takes the place of 2 * strip + 1 at the old end, and
+ * the new post has 2 * strip + 1 and 2m. There are as many faces as before.
+ *
+ * 35: `strip` is not below m. 36: there are 64 posts. Never 37. */
+uint8_t plates_split_strip(const uint8_t *list, size_t list_len, size_t strip,
+                           uint8_t *out, size_t out_len, size_t *long_);
+
+/* Hangs a new strip to the new post in the corner where a dart ends: dart 2m
+ * stands just before the twin of `dart` in the clockwise order of the post where
+ * `dart` ends, so that it comes after `dart` on the face. The new post has dart
+ * 2m + 1. There are as many faces as before.
+ *
+ * 35: `dart` is not below 2m. 36: there are 64 posts. 37: four places are taken
+ * at the post where `dart` ends. */
+uint8_t plates_hang_strip(const uint8_t *list, size_t list_len, size_t dart,
+                          uint8_t *out, size_t out_len, size_t *long_);
+
+/* Joins two corners of a face by a new strip, from the one where `dart` ends to
+ * the one where `other` ends: dart 2m stands just before the twin of `dart`, and
+ * dart 2m + 1 just before the twin of `other`. There is one face more.
+ *
+ * 35: `dart` or `other` is not below 2m, or they are equal or of two faces. 36:
+ * there are 128 strips. 37: four places are taken at a post where one of them
+ * ends, or three where both end at one post. */
+uint8_t plates_join_darts(const uint8_t *list, size_t list_len, size_t dart,
+                          size_t other, uint8_t *out, size_t out_len,
+                          size_t *long_);
 
 /* Gives the current revision of a model from a book of entries. An entry is a
  * model, a revision and the revision replaced, two bytes each, high byte

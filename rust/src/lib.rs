@@ -1,14 +1,15 @@
 //! Strip plates: from a plate list to the shape with fewest bends.
 //!
-//! A safe wrapper round the seven functions of the verified library. A plate
+//! A safe wrapper round the ten functions of the verified library. A plate
 //! list is bytes in fields: one-byte tag, two-byte length (high byte first),
 //! content. [`write_shape`] writes the best shape of a plate list,
 //! [`check_shape`] gives a verdict on a shape file, and [`write_listing`]
 //! writes the best shape as text. [`write_text`] turns a shape file into its
 //! text of faces, and [`read_text`] turns such a text back into a shape file.
 //! [`order_fields`] puts the fields of an older file in tag order.
-//! [`current_revision`] finds the current revision of a model in a book of
-//! entries.
+//! [`split_strip`], [`hang_strip`] and [`join_darts`] are the steps of the plate
+//! editor: each writes the plate list after the step. [`current_revision`] finds
+//! the current revision of a model in a book of entries.
 //!
 //! ```
 //! // Two posts joined by two strips.
@@ -50,6 +51,11 @@ pub const LONGEST_SHAPE: usize = 16 + 4 * 128;
 /// digits of the numbers 0 to 255, and for each of these darts a word of 255
 /// digits, an angle and three spaces, or two and a line feed.
 pub const LONGEST_TEXT: usize = 10 + 2 * 90 + 3 * 156 + 256 * (255 + 4);
+
+/// Lent memory of this length is enough for the plate list after every step:
+/// 19 bytes, and 4 for each of 128 strips; with limits 3 more, and 1 for each
+/// strip.
+pub const LONGEST_STEPPED_LIST: usize = 19 + 4 * 128 + 3 + 128;
 
 /// A shape that was written.
 #[derive(Clone, Copy, Debug, PartialEq, Eq)]
@@ -253,21 +259,21 @@ pub fn write_listing(list: &[u8], out: &mut [u8]) -> Result<usize, Refusal> {
 /// assert_eq!(write_text(&list, &shape, &mut out), Err(Refusal::MixedWord));
 /// ```
 pub fn write_text(list: &[u8], shape: &[u8], out: &mut [u8]) -> Result<usize, Refusal> {
-    let mut length = 0;
-    // SAFETY: each pointer comes from a reference or a slice, with the slice's
-    // own length, and `out` and the length overlap nothing.
-    let number = unsafe {
-        calls::plates_write_text(
-            list.as_ptr(),
-            list.len(),
-            shape.as_ptr(),
-            shape.len(),
-            out.as_mut_ptr(),
-            out.len(),
-            &mut length,
-        )
-    };
-    accepted(number).map(|()| length)
+    length_by(|length| {
+        // SAFETY: each pointer comes from a reference or a slice, with the slice's
+        // own length, and `out` and the length overlap nothing.
+        unsafe {
+            calls::plates_write_text(
+                list.as_ptr(),
+                list.len(),
+                shape.as_ptr(),
+                shape.len(),
+                out.as_mut_ptr(),
+                out.len(),
+                length,
+            )
+        }
+    })
 }
 
 /// Writes the shape file that a text of faces gives to the front of `out`, with
@@ -371,6 +377,169 @@ pub fn order_fields(file: &[u8], out: &mut [u8]) -> Result<usize, Refusal> {
     written_by(calls::plates_order_fields, file, out)
 }
 
+/// Splits a strip: writes the plate list after this step of the editor to the
+/// front of `out`, and gives its length, at most [`LONGEST_STEPPED_LIST`].
+///
+/// Of a list with n posts and m strips, `strip` ends at the new post n, and the
+/// new strip m runs from there to its old end. Dart 2m + 1 takes the place of
+/// 2 · `strip` + 1 at the old end, and the new post has 2 · `strip` + 1 and 2m.
+/// There are as many faces as before, and the face of the outer dart stays outer.
+///
+/// The list written is accepted. It has the revision and the outer dart of `list`,
+/// its fields in tag order and no remark. Where `list` has limits, field 07, the
+/// new strip has the limit of `strip`. Its length is 19 + 4 · strips, and 3 +
+/// strips more with limits. The bytes of `out` behind it stay as they are.
+///
+/// # Errors
+/// Refusals 1 to 15, 23 and 29 for the plate list; then [`Refusal::NoSuchStep`]
+/// where `strip` is not below m; then [`Refusal::PlateFull`] where there are 64
+/// posts; then [`Refusal::MemoryShort`] where `out` is shorter than the list. On
+/// a refusal `out` is unchanged.
+///
+/// ```
+/// use plates::{split_strip, Refusal};
+///
+/// let list = [
+///     0x01, 0, 2, 0, 7, 0x02, 0, 1, 2, 0x03, 0, 4, 0, 1, 0, 1, //
+///     0x04, 0, 4, 0, 2, 1, 3, 0x05, 0, 1, 1, 0x07, 0, 2, 8, 9,
+/// ];
+/// let mut out = [0xee; 40];
+/// assert_eq!(split_strip(&list, 2, &mut out), Err(Refusal::NoSuchStep));
+/// assert_eq!(split_strip(&list, 0, &mut out[..36]), Err(Refusal::MemoryShort));
+/// assert_eq!(out, [0xee; 40]);
+/// assert_eq!(split_strip(&list, 0, &mut out), Ok(37));
+/// assert_eq!(
+///     out,
+///     [
+///         0x01, 0, 2, 0, 7, 0x02, 0, 1, 3, // revision 7, three posts
+///         0x03, 0, 6, 0, 2, 0, 1, 2, 1, // strip 0 to post 2, strip 2 from there to post 1
+///         0x04, 0, 6, 0, 2, 5, 3, 1, 4, // darts 0 and 2, 5 and 3, 1 and 4
+///         0x05, 0, 1, 1, 0x07, 0, 3, 8, 9, 8, // outer dart 1, limits
+///         0xee, 0xee, 0xee,
+///     ]
+/// );
+/// ```
+pub fn split_strip(list: &[u8], strip: usize, out: &mut [u8]) -> Result<usize, Refusal> {
+    stepped_by(calls::plates_split_strip, list, strip, out)
+}
+
+/// Hangs a strip: writes the plate list after this step of the editor to the
+/// front of `out`, and gives its length, at most [`LONGEST_STEPPED_LIST`].
+///
+/// Of a list with n posts and m strips, the new strip m runs to the new post n,
+/// from the corner where `dart` ends: dart 2m stands just before the twin of
+/// `dart` in the clockwise order of the post where `dart` ends, so that it comes
+/// after `dart` on the face. There are as many faces as before, and the face of
+/// the outer dart stays outer.
+///
+/// The list written is as that of [`split_strip`], but the new strip has limit
+/// 255, which is none.
+///
+/// # Errors
+/// Refusals 1 to 15, 23 and 29 for the plate list; then [`Refusal::NoSuchStep`]
+/// where `dart` is not below 2m; then [`Refusal::PlateFull`] where there are 64
+/// posts; then [`Refusal::PostFull`] where four places are taken at the post where
+/// `dart` ends; then [`Refusal::MemoryShort`] where `out` is shorter than the
+/// list. On a refusal `out` is unchanged.
+///
+/// ```
+/// use plates::{hang_strip, Refusal};
+///
+/// let list = [
+///     0x01, 0, 2, 0, 7, 0x02, 0, 1, 2, 0x03, 0, 4, 0, 1, 0, 1, //
+///     0x04, 0, 4, 0, 2, 1, 3, 0x05, 0, 1, 1,
+/// ];
+/// let mut out = [0; plates::LONGEST_STEPPED_LIST];
+/// assert_eq!(hang_strip(&list, 4, &mut out), Err(Refusal::NoSuchStep));
+/// let length = hang_strip(&list, 0, &mut out)?;
+/// assert_eq!(
+///     out[..length],
+///     [
+///         0x01, 0, 2, 0, 7, 0x02, 0, 1, 3, // revision 7, three posts
+///         0x03, 0, 6, 0, 1, 0, 1, 1, 2, // strip 2 from post 1 to post 2
+///         0x04, 0, 6, 0, 2, 4, 1, 3, 5, // darts 0 and 2, 4, 1 and 3, 5
+///         0x05, 0, 1, 1, // outer dart 1
+///     ]
+/// );
+///
+/// // Post 1 has a fourth strip after the next step, and no place for a fifth.
+/// let list = out[..length].to_vec();
+/// let length = hang_strip(&list, 0, &mut out)?;
+/// let list = out[..length].to_vec();
+/// assert_eq!(hang_strip(&list, 0, &mut out), Err(Refusal::PostFull));
+/// # Ok::<(), plates::Refusal>(())
+/// ```
+pub fn hang_strip(list: &[u8], dart: usize, out: &mut [u8]) -> Result<usize, Refusal> {
+    stepped_by(calls::plates_hang_strip, list, dart, out)
+}
+
+/// Joins two corners of a face: writes the plate list after this step of the
+/// editor to the front of `out`, and gives its length, at most
+/// [`LONGEST_STEPPED_LIST`].
+///
+/// Of a list with m strips, the new strip m runs from the corner where `dart` ends
+/// to the corner where `other` ends: dart 2m stands just before the twin of
+/// `dart` in its clockwise order, and dart 2m + 1 just before the twin of `other`.
+/// There is one face more, and the one with the outer dart is outer.
+///
+/// The list written is as that of [`split_strip`], but the new strip has limit
+/// 255, which is none.
+///
+/// # Errors
+/// Refusals 1 to 15, 23 and 29 for the plate list; then [`Refusal::NoSuchStep`]
+/// where `dart` or `other` is not below 2m, or they are equal or of two faces;
+/// then [`Refusal::PlateFull`] where there are 128 strips; then
+/// [`Refusal::PostFull`] where four places are taken at a post where one of them
+/// ends, or three where both end at one post; then [`Refusal::MemoryShort`] where
+/// `out` is shorter than the list. On a refusal `out` is unchanged.
+///
+/// ```
+/// use plates::{join_darts, Refusal};
+///
+/// let list = [
+///     0x01, 0, 2, 0, 7, 0x02, 0, 1, 2, 0x03, 0, 4, 0, 1, 0, 1, //
+///     0x04, 0, 4, 0, 2, 1, 3, 0x05, 0, 1, 1,
+/// ];
+/// let mut out = [0; plates::LONGEST_STEPPED_LIST];
+/// // Darts 0 and 3 go round the inner face, 1 and 2 round the outer one.
+/// for (dart, other) in [(0, 0), (0, 1), (0, 4)] {
+///     assert_eq!(join_darts(&list, dart, other, &mut out), Err(Refusal::NoSuchStep));
+/// }
+/// let length = join_darts(&list, 0, 3, &mut out)?;
+/// assert_eq!(
+///     out[..length],
+///     [
+///         0x01, 0, 2, 0, 7, 0x02, 0, 1, 2, // revision 7, two posts
+///         0x03, 0, 6, 0, 1, 0, 1, 1, 0, // strip 2 from post 1 to post 0
+///         0x04, 0, 6, 0, 5, 2, 4, 1, 3, // darts 0, 5 and 2, 4, 1 and 3
+///         0x05, 0, 1, 1, // outer dart 1
+///     ]
+/// );
+/// # Ok::<(), plates::Refusal>(())
+/// ```
+pub fn join_darts(
+    list: &[u8],
+    dart: usize,
+    other: usize,
+    out: &mut [u8],
+) -> Result<usize, Refusal> {
+    length_by(|length| {
+        // SAFETY: each pointer comes from a reference or a slice, with the slice's
+        // own length, and `out` and the length overlap nothing.
+        unsafe {
+            calls::plates_join_darts(
+                list.as_ptr(),
+                list.len(),
+                dart,
+                other,
+                out.as_mut_ptr(),
+                out.len(),
+                length,
+            )
+        }
+    })
+}
+
 /// Gives the current revision of a model from a book of entries, or none where
 /// the model is not in the book.
 ///
@@ -419,19 +588,45 @@ fn shape_by(call: impl FnOnce(&mut u32, &mut u32) -> u8) -> Result<Shape, Refusa
 type Write = unsafe extern "C" fn(*const u8, usize, *mut u8, usize, &mut usize) -> u8;
 
 fn written_by(call: Write, from: &[u8], out: &mut [u8]) -> Result<usize, Refusal> {
+    length_by(|length| {
+        // SAFETY: each pointer comes from a reference or a slice, with the slice's
+        // own length, and `out` and the length overlap nothing.
+        unsafe {
+            call(
+                from.as_ptr(),
+                from.len(),
+                out.as_mut_ptr(),
+                out.len(),
+                length,
+            )
+        }
+    })
+}
+
+/// A call that reads a plate list and a number, and writes the same way.
+type Step = unsafe extern "C" fn(*const u8, usize, usize, *mut u8, usize, &mut usize) -> u8;
+
+fn stepped_by(call: Step, list: &[u8], at: usize, out: &mut [u8]) -> Result<usize, Refusal> {
+    length_by(|length| {
+        // SAFETY: each pointer comes from a reference or a slice, with the slice's
+        // own length, and `out` and the length overlap nothing.
+        unsafe {
+            call(
+                list.as_ptr(),
+                list.len(),
+                at,
+                out.as_mut_ptr(),
+                out.len(),
+                length,
+            )
+        }
+    })
+}
+
+/// The length of what a call wrote.
+fn length_by(call: impl FnOnce(&mut usize) -> u8) -> Result<usize, Refusal> {
     let mut length = 0;
-    // SAFETY: each pointer comes from a reference or a slice, with the slice's
-    // own length, and `out` and the length overlap nothing.
-    let number = unsafe {
-        call(
-            from.as_ptr(),
-            from.len(),
-            out.as_mut_ptr(),
-            out.len(),
-            &mut length,
-        )
-    };
-    accepted(number).map(|()| length)
+    accepted(call(&mut length)).map(|()| length)
 }
 
 /// The library returns 0 or a refusal's number, and no other.
@@ -495,6 +690,31 @@ mod calls {
             out_len: usize,
             long: &mut usize,
         ) -> u8;
+        pub fn plates_split_strip(
+            list: *const u8,
+            list_len: usize,
+            strip: usize,
+            out: *mut u8,
+            out_len: usize,
+            long: &mut usize,
+        ) -> u8;
+        pub fn plates_hang_strip(
+            list: *const u8,
+            list_len: usize,
+            dart: usize,
+            out: *mut u8,
+            out_len: usize,
+            long: &mut usize,
+        ) -> u8;
+        pub fn plates_join_darts(
+            list: *const u8,
+            list_len: usize,
+            dart: usize,
+            other: usize,
+            out: *mut u8,
+            out_len: usize,
+            long: &mut usize,
+        ) -> u8;
         pub fn plates_current_revision(
             book: *const u8,
             book_len: usize,
@@ -504,7 +724,8 @@ mod calls {
     }
 }
 
-/// Why a plate list, a shape file, a text, lent memory or a book was refused.
+/// Why a plate list, a shape file, a text, a step, lent memory or a book was
+/// refused.
 #[derive(Clone, Copy, Debug, PartialEq, Eq, Hash)]
 #[repr(u8)]
 pub enum Refusal {
@@ -567,6 +788,13 @@ pub enum Refusal {
     /// The faces of a text, with their sequence and starts, are not the plate's,
     /// or its words do not agree across a strip.
     TextFaces = 32,
+    /// A strip or dart of a step that is not there, or darts to be joined that
+    /// are equal or of two faces.
+    NoSuchStep = 35,
+    /// A step to post 65 or strip 129.
+    PlateFull = 36,
+    /// A step to a fifth place at a post.
+    PostFull = 37,
     /// The last entry of a book has under six bytes.
     EntryCut = 40,
     /// An entry's revision is 0, or already listed for its model.
@@ -578,7 +806,7 @@ pub enum Refusal {
 
 impl Refusal {
     /// Every refusal, by rising number.
-    pub const ALL: [Refusal; 31] = [
+    pub const ALL: [Refusal; 34] = [
         Refusal::FieldCut,
         Refusal::UnknownTag,
         Refusal::RepeatedTag,
@@ -607,12 +835,15 @@ impl Refusal {
         Refusal::TextForm,
         Refusal::MixedWord,
         Refusal::TextFaces,
+        Refusal::NoSuchStep,
+        Refusal::PlateFull,
+        Refusal::PostFull,
         Refusal::EntryCut,
         Refusal::RevisionListed,
         Refusal::NotCurrent,
     ];
 
-    /// Its number: 1 to 25, never 10, or 29 to 32, or 40 to 42.
+    /// Its number: 1 to 25, never 10, or 29 to 32, or 35 to 37, or 40 to 42.
     pub fn number(self) -> u8 {
         self as u8
     }
@@ -644,9 +875,7 @@ impl Refusal {
             Refusal::NoStrips => "the plate has no strips",
             Refusal::EndNotAPost => "a strip ends at a post that the plate does not have",
             Refusal::OverFourPlaces => "a post has more than four places taken; a strip from a post to itself takes two",
-            Refusal::ClockwiseOrder => {
-                "the clockwise order must list, post after post, each dart that leaves the post once"
-            }
+            Refusal::ClockwiseOrder => "the clockwise order must list, post after post, each dart that leaves the post once",
             Refusal::OuterDart => "the outer dart is not a dart of the plate",
             Refusal::NotConnected => "the plate is in separate pieces",
             Refusal::NotPlane => "strips would cross in the given order round the posts",
@@ -664,11 +893,12 @@ impl Refusal {
             Refusal::TextForm => "a line is not of the form, or a word has over 255 digits",
             Refusal::MixedWord => "a strip bends both ways",
             Refusal::TextFaces => "faces are not the plate's, or words do not agree across a strip",
+            Refusal::NoSuchStep => "a strip or dart is not there, or darts are equal or of two faces",
+            Refusal::PlateFull => "a step needs post 65 or strip 129",
+            Refusal::PostFull => "a step needs a fifth place at a post",
             Refusal::EntryCut => "the book ends in the middle of an entry",
             Refusal::RevisionListed => "an entry's revision is 0 or already listed for its model",
-            Refusal::NotCurrent => {
-                "an entry replaces a revision that is not its model's current one or, for a new model, not 0"
-            }
+            Refusal::NotCurrent => "an entry replaces a revision that is not its model's current one or, for a new model, not 0",
         }
     }
 }
@@ -689,7 +919,7 @@ mod tests {
     fn numbers_and_refusals_agree() {
         for number in 0..=255 {
             let refusal = Refusal::from_number(number);
-            let given = matches!(number, 0..=9 | 11..=25 | 29..=32 | 40..=42);
+            let given = matches!(number, 0..=9 | 11..=25 | 29..=32 | 35..=37 | 40..=42);
             assert_eq!(refusal.map_or(0, Refusal::number) == number, given);
         }
     }
