@@ -2,6 +2,7 @@
 //! panics with the bytes in hexadecimal.
 
 use crate::files::{in_order, listing_of, shape_of, verdict_of, Solver, Verdict};
+use crate::steps::{begun_as, list_after, Step};
 use crate::texts::{file_to_text, text_to_file};
 
 /// Bytes as hexadecimal.
@@ -173,4 +174,30 @@ pub fn from_text(list: &[u8], text: &[u8]) -> Result<Vec<u8>, u8> {
         plates::read_text(list, text, out).map(|shape| (shape.length, shape.bends))
     });
     expected.map(|(file, _)| file)
+}
+
+/// One of the three calls of a step.
+pub fn step_of_library(list: &[u8], step: Step, out: &mut [u8]) -> Result<usize, plates::Refusal> {
+    match step {
+        Step::Split(strip) => plates::split_strip(list, strip, out),
+        Step::Hang(dart) => plates::hang_strip(list, dart, out),
+        Step::Join(dart, other) => plates::join_darts(list, dart, other, out),
+    }
+}
+
+/// Compares a step over a list, for lent memory of several lengths. The orders of
+/// the posts are compared cyclically, all else byte for byte. Gives the list
+/// after the step, or the refusal.
+pub fn stepping(list: &[u8], step: Step) -> Result<Vec<u8>, u8> {
+    let mut written = pattern(plates::LONGEST_STEPPED_LIST);
+    let _ = step_of_library(list, step, &mut written);
+    let expected = list_after(list, step).map(|after| begun_as(&after, &written));
+    let writing = Writing {
+        name: &format!("{step:?}"),
+        reads: &[list],
+        expected: expected.as_ref().map(|l| (&l[..], 0)).map_err(|&n| n),
+    };
+    let most = plates::LONGEST_STEPPED_LIST;
+    writing.compare_near(most, &|out| Ok((step_of_library(list, step, out)?, 0)));
+    expected
 }

@@ -6,6 +6,7 @@
 //! - [`files`]: fields, refusals, shape files, verdicts, listings, older files.
 //! - [`texts`]: texts of faces by lines and items.
 //! - [`plate`]: darts, rotation, faces, limits, the conditions H3 and H4.
+//! - [`steps`]: the editor's steps over a plain table of post orders.
 //! - [`search`]: the best shape of a small plate by trying every shape.
 //! - [`cancelling`]: the best shape of any plate by cancelling cycles.
 //! - [`certificate`]: whether a given shape is the best one, or no shape keeps
@@ -36,6 +37,7 @@ pub mod remembered;
 pub mod round_trip;
 pub mod search;
 pub mod small;
+pub mod steps;
 pub mod text_damage;
 pub mod texts;
 

@@ -58,39 +58,18 @@ fn two_strips() -> Plate {
     }
 }
 
-/// Puts `new` into the corner at the end of `dart`: just before its twin.
-fn insert_at_corner(plate: &mut Plate, dart: usize, new: usize) {
-    let around = &mut plate.order[plate.strips[dart / 2][1 - dart % 2]];
-    let place = around.iter().position(|&d| d == twin(dart));
-    around.insert(place.expect("every dart stands in the order"), new);
-}
-
 /// Joins a new post into the corner at the end of a dart.
 fn hang(plate: &mut Plate, random: &mut Random) {
     let dart = random.below(plate.darts());
-    let post = plate.head(dart);
-    if plate.degree(post) == 4 {
-        return;
+    if plate.degree(plate.head(dart)) < 4 {
+        plate.hang(dart);
     }
-    let new = plate.darts();
-    insert_at_corner(plate, dart, new);
-    plate.strips.push([post, plate.posts]);
-    plate.order.push(vec![twin(new)]);
-    plate.posts += 1;
 }
 
 /// Puts a new post on a strip.
 fn split(plate: &mut Plate, random: &mut Random) {
-    let dart = 2 * random.below(plate.strips.len());
-    let second = plate.head(dart);
-    let new = plate.darts();
-    let around = &mut plate.order[second];
-    let place = around.iter().position(|&d| d == twin(dart));
-    around[place.expect("every dart stands in the order")] = twin(new);
-    plate.strips[dart / 2][1] = plate.posts;
-    plate.strips.push([plate.posts, second]);
-    plate.order.push(vec![twin(dart), new]);
-    plate.posts += 1;
+    let strip = random.below(plate.strips.len());
+    plate.split(strip);
 }
 
 /// Joins two corners of one face by a new strip. Where `loops` are wanted they
@@ -105,10 +84,7 @@ fn join(plate: &mut Plate, loops: bool, random: &mut Random) {
     if first == second && !loops || plate.degree(first) > most || plate.degree(second) > most {
         return;
     }
-    let new = plate.darts();
-    insert_at_corner(plate, a, new);
-    insert_at_corner(plate, b, twin(new));
-    plate.strips.push([first, second]);
+    plate.join(a, b);
 }
 
 /// Lets a plane plate grow by random splits, hangs and joins, with their shares

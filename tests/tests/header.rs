@@ -123,3 +123,47 @@ fn c_program_gets_the_text_and_the_shape() {
     expected += &refused(31);
     assert_eq!(printed_by_c("texts"), expected);
 }
+
+/// P1 with limits 8 and 9: strip 0 is split, a strip is hung at the end of dart
+/// 4, and it is joined to the end of dart 0, each with the memory just long enough
+/// and one byte short. Refused are strip 2 and dart 6 before they are there, darts
+/// 0 and 1 of two faces, and 0 and 4, which the join parted. At the end of dart 4
+/// there is room for one strip more and no other. A list without its last byte is
+/// refused with 5.
+#[test]
+fn c_program_gets_the_lists_after_steps() {
+    let list = |posts, strips: &str, order: &str, limits: &str| {
+        let [ends, darts, own] = [strips, order, limits].map(|s| s.split(' ').count());
+        format!(
+            "01 00 02 00 07 02 00 01 {posts:02x} 03 00 {ends:02x} {strips} \
+             04 00 {darts:02x} {order} 05 00 01 01 07 00 {own:02x} {limits}\n"
+        )
+    };
+    let split = list(3, "00 02 00 01 02 01", "00 02 05 03 01 04", "08 09 08");
+    let hung = list(
+        4,
+        "00 02 00 01 02 01 01 03",
+        "00 02 06 05 03 01 04 07",
+        "08 09 08 ff",
+    );
+    let joined = list(
+        4,
+        "00 02 00 01 02 01 01 03 03 02",
+        "00 02 06 05 03 09 01 04 08 07",
+        "08 09 08 ff ff",
+    );
+    let again = list(
+        5,
+        "00 02 00 01 02 01 01 03 03 02 01 04",
+        "00 02 06 0a 05 03 09 01 04 08 07 0b",
+        "08 09 08 ff ff ff",
+    );
+    let expected = format!(
+        "split 35 length 0:\nsplit 16 length 0:\nsplit 0 length 37: {split}\
+         hang 35 length 0:\nhang 16 length 0:\nhang 0 length 42: {hung}\
+         join 35 length 0:\njoin 16 length 0:\njoin 0 length 47: {joined}\
+         join 35 length 0:\nhang 0 length 52: {again}\
+         hang 37 length 0:\nsplit 5 length 0:\n"
+    );
+    assert_eq!(printed_by_c("steps"), expected);
+}
