@@ -20,7 +20,7 @@ use Rattle.plates.specs.Read.{ListHeld}
 use Rattle.plates.specs.Listing.{Gives}
 use Rattle.plates.specs.Answers.{listed}
 use Rattle.plates.specs.Ordering.{bytesIn}
-use Rattle.plates.specs.Journal.{Step, stepFault, stepped, newLimit, fieldsWith, listAfter, editFault, EditWith, EditSays}
+use Rattle.plates.specs.Journal.{Step, stepFault, stepped, newLimit, grownFields, listAfter, editFault, EditWith, EditSays}
 use Rattle.plates.proofs.Limits.{one-each}
 use Rattle.plates.proofs.Journal.{step-darts}
 use Rattle.edits.specs.Writes.{PlateGiven}
@@ -66,9 +66,9 @@ plate-given s t {rd} {q} none h standing stands =
 
 -- the list after a step, from what the writer gives of its plate
 pub after-given : (s : List ℕ) (t : Step) {rd : ListRead} (o o′ : List ℕ) (v : Listed) {more : ℕ} {c : List ℕ} → listFault s ≡ 0 → ListHeld s rd → stepFault (plateOf s) t ≡ 0 → c ≡ bytesOf s (rd .fields) 6 → more ≡ newLimit c t
-    → (Accepted (stepped (plateOf s) t) → Gives (bytesIn (fieldsWith (walkAll false s .fields) (stepped (plateOf s) t) more)) o o′ v) → EditSays s t o o′ v
+    → (Accepted (stepped (plateOf s) t) → Gives (bytesIn (grownFields (walkAll false s .fields) (stepped (plateOf s) t) more)) o o′ v) → EditSays s t o o′ v
 after-given s t o o′ v {more} {c} none h z is-content is-more g =
     list-given s t o none o′ v z
-    (subst (λ (n : ℕ). Gives (bytesIn (fieldsWith (walkAll false s .fields) (stepped (plateOf s) t) n)) o o′ v)
+    (subst (λ (n : ℕ). Gives (bytesIn (grownFields (walkAll false s .fields) (stepped (plateOf s) t) n)) o o′ v)
     (is-more ∙ ap (λ (l : List ℕ). newLimit l t) (limits-are (h .fields) c is-content))
     (g (editing .step (plateOf s) (h .accepted) t z .accepted)))

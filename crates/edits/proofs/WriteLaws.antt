@@ -28,7 +28,7 @@ use Rattle.plates.specs.Plates.{pick, when}
 use Rattle.plates.specs.Files.{Field, hasTag, contentOf, walkAll, field}
 use Rattle.plates.specs.Read.{Walked}
 use Rattle.plates.specs.Ordering.{bytesIn}
-use Rattle.plates.specs.Journal.{limitsWith, plateFields, fieldsWith}
+use Rattle.plates.specs.Journal.{limitsWith, plateFields, grownFields}
 use Rattle.plates.proofs.Contents.{ListFields, list-fields}
 use Rattle.plates.proofs.HeldLists.{walked-content, walked-there}
 use Rattle.plates.proofs.Journal.{plate-fields-long, limits-long}
@@ -135,7 +135,7 @@ module _ {s : List ℕ} {f : Fields} {q : Held} (g : PlateGiven s f q) where
 
     module _ (more : ℕ) where
       -- the length of the list
-      pub list-is-long : length (bytesIn (fieldsWith gs p more)) ≡ listLong (q .darts) (hasTag 7 gs)
+      pub list-is-long : length (bytesIn (grownFields gs p more)) ≡ listLong (q .darts) (hasTag 7 gs)
       list-is-long =
           omega (arith, plate-fields-long (contentOf 1 gs) p (limitsWith gs more), laid-out .revision, ends-long, order-long, limits-long gs more, limits-room)
 
@@ -149,7 +149,7 @@ module _ {s : List ℕ} {f : Fields} {q : Held} (g : PlateGiven s f q) where
           → Written n3 (field 4 (take (q .darts) order)) o3 o4 n4 → length o4 ≡ length o3
           → Written n4 (field 5 (x ∷ [])) o4 o5 n5 → length o5 ≡ length o4
           → Written n5 (bytesIn (limitsWith gs more)) o5 o6 n6
-          → Written 0 (bytesIn (fieldsWith gs p more)) out o6 n6
+          → Written 0 (bytesIn (grownFields gs p more)) out o6 n6
       fields-written {n} {x} {n1} {n2} {n3} {n4} {n5} {n6} {c} {order} {out} {o1} {o2} {o3} {o4} {o5} {o6} rev np xp front room w1 l1 w2 l2 w3 l3 w4 l4 w5 l5 w6 =
           let c-long : length c ≡ 2 = revision-two c rev in
           let v3 : Written n2 (field 3 (p .ends)) o2 o3 n3 = subst (λ (l : List ℕ). Written n2 (field 3 l) o2 o3 n3) ends-are w3 in
@@ -185,12 +185,12 @@ module _ {s : List ℕ} {f : Fields} {q : Held} (g : PlateGiven s f q) {long : �
   room-enough room h = record { given = g; enough = omega (arith, long-now) }
 
   module _ (more : ℕ) (o : List ℕ) {p : Plate} (st : Stands q p) (a : Accepted p) where
-    pub list-short : {v : Listed} → length o < long → v ≡ listed 16 0 → Gives (bytesIn (fieldsWith (walkAll false s .fields) p more)) o o v
+    pub list-short : {v : Listed} → length o < long → v ≡ listed 16 0 → Gives (bytesIn (grownFields (walkAll false s .fields) p more)) o o v
     list-short {v} h e =
-        subst (λ (w : Listed). Gives (bytesIn (fieldsWith (walkAll false s .fields) p more)) o o w) (sym e)
-        (gives-short (bytesIn (fieldsWith (walkAll false s .fields) p more)) o (omega (arith, long-now, list-is-long g st a more)))
+        subst (λ (w : Listed). Gives (bytesIn (grownFields (walkAll false s .fields) p more)) o o w) (sym e)
+        (gives-short (bytesIn (grownFields (walkAll false s .fields) p more)) o (omega (arith, long-now, list-is-long g st a more)))
 
-    pub list-whole : {o′ : List ℕ} {n : ℕ} → long ≤ length o → Written 0 (bytesIn (fieldsWith (walkAll false s .fields) p more)) o o′ n → Gives (bytesIn (fieldsWith (walkAll false s .fields) p more)) o o′ (listed 0 long)
+    pub list-whole : {o′ : List ℕ} {n : ℕ} → long ≤ length o → Written 0 (bytesIn (grownFields (walkAll false s .fields) p more)) o o′ n → Gives (bytesIn (grownFields (walkAll false s .fields) p more)) o o′ (listed 0 long)
     list-whole {o′} h w =
-        subst (λ (k : ℕ). Gives (bytesIn (fieldsWith (walkAll false s .fields) p more)) o o′ (listed 0 k)) (list-is-long g st a more ∙ sym long-now)
-        (gives-whole (bytesIn (fieldsWith (walkAll false s .fields) p more)) o (omega (arith, long-now, list-is-long g st a more)) (w .bytes))
+        subst (λ (k : ℕ). Gives (bytesIn (grownFields (walkAll false s .fields) p more)) o o′ (listed 0 k)) (list-is-long g st a more ∙ sym long-now)
+        (gives-whole (bytesIn (grownFields (walkAll false s .fields) p more)) o (omega (arith, long-now, list-is-long g st a more)) (w .bytes))

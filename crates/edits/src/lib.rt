@@ -11,7 +11,7 @@ ghost use Rattle.plates.specs.Answers.{listed};
 ghost use Rattle.plates.specs.Files.{walkAll};
 ghost use Rattle.plates.specs.Listing.{Gives};
 ghost use Rattle.plates.specs.Ordering.{bytesIn};
-ghost use Rattle.plates.specs.Journal.{newLimit, limitsWith, fieldsWith, EditSays};
+ghost use Rattle.plates.specs.Journal.{newLimit, limitsWith, grownFields, EditSays};
 ghost use Rattle.edits.specs.Writes.{listLong, LimitsRoom, PlateGiven, PlateRoom};
 use embedding::Plate;
 use embedding::journal::Step;
@@ -84,7 +84,7 @@ fn write_limits(list: &[u8], f: Fields, more: u8, out: &mut [u8], at: usize) -> 
 // Writes the fields of a plate, behind the revision of its list before the step, and gives their length.
 fn write_fields(list: &[u8], f: Fields, plate: Plate, more: u8, out: &mut [u8]) -> usize
     requires { ⌜ PlateRoom (now list) f plate (length (now out)) ⌝ }
-    ensures { λ r. ⌜ ((p : PlateOf) → Stands plate p → Accepted p → Written 0 (bytesIn (fieldsWith (walkAll false (now (list .entry)) .fields) p more)) (now (out .entry)) (now (out .exit)) r) ⌝ }
+    ensures { λ r. ⌜ ((p : PlateOf) → Stands plate p → Accepted p → Written 0 (bytesIn (grownFields (walkAll false (now (list .entry)) .fields) p more)) (now (out .entry)) (now (out .exit)) r) ⌝ }
 {
     let darts = plate.darts;
     let ends = plate.ends;
@@ -105,7 +105,7 @@ fn write_fields(list: &[u8], f: Fields, plate: Plate, more: u8, out: &mut [u8]) 
 // Writes the list of a plate with one strip more than its list before, whose limit is given, or refuses with 16.
 fn write_list(list: &[u8], f: Fields, plate: Plate, more: u8, out: &mut [u8]) -> Listed
     requires { ⌜ PlateGiven (now list) f plate ⌝ }
-    ensures { λ r. ⌜ ((p : PlateOf) → Stands plate p → Accepted p → Gives (bytesIn (fieldsWith (walkAll false (now (list .entry)) .fields) p more)) (now (out .entry)) (now (out .exit)) r) ⌝ }
+    ensures { λ r. ⌜ ((p : PlateOf) → Stands plate p → Accepted p → Gives (bytesIn (grownFields (walkAll false (now (list .entry)) .fields) p more)) (now (out .entry)) (now (out .exit)) r) ⌝ }
 {
     let limited = f.seen[6];
     let darts = plate.darts;

@@ -2,7 +2,7 @@
 use mathlib.Core.Path.{_≡_, refl, sym, ap, subst, _∙_}
 use mathlib.Core.Bool.{Bool, true, false}
 use mathlib.Core.List.{List, [], _∷_, _++_, append-nil}
-use mathlib.Core.Logic.{_⊎_, inl, inr, ⊎-elim}
+use mathlib.Core.Logic.{⊎-elim}
 use Prim.Native.Nat.{ℕ, suc, _+_, _≤_, _<_}
 use native.Mathlib.Omega.{arith}
 use borrow.Author.Tests.{eq-eqb, ne-eqb}
@@ -163,7 +163,7 @@ module _ (p : Plate) (o : Ordered p) (d e : ℕ) (l : d < darts p) (k : e < dart
         ∙ round-else t K (inner (endsAt p x)) (twin x) (λ w. m (twin-one x d w)) (omega (arith, twin-dart p o x j))
         ∙ round-else s (suc K) (partOf p (endsAt p x)) (twin x) (λ w. i (twin-one x e w)) (omega (arith, twin-dart p o x j))
 
-    law : Divided (after p) (after q) K d e
+    law : Divided (after p) (after q) K
     law =
         join-law (after p) (after q) d e K (o .even) (after-one-to-one p o) l k apart (sym (lead-orbit p d) ∙ together ∙ lead-orbit p e)
         join-from join-to join-back-from join-back-to join-other
@@ -171,24 +171,13 @@ module _ (p : Plate) (o : Ordered p) (d e : ℕ) (l : d < darts p) (k : e < dart
     lead-now : (x : ℕ) → lead q x ≡ leadIn (after q) (suc (suc K)) x
     lead-now x = lead-orbit q x ∙ ap (λ (j : ℕ). leadIn (after q) j x) darts-now
 
-    -- one face more: d and e are in two now, each other dart of their face with one of them; the other faces are as before
+    -- one face more
     pub join-faces : length (faces q) ≡ length (faces p) + 1
-    join-faces = faces-orbits q ∙ ap (orbits (after q)) darts-now ∙ law .count ∙ ap (λ (c : ℕ). c + 1) (sym (faces-orbits p))
-
-    pub join-apart : lead q d ≡ lead q e → ⊥
-    join-apart w = law .apart (sym (lead-now d) ∙ w ∙ lead-now e)
-
-    pub join-either : (x : ℕ) → x < K → lead p x ≡ lead p d → (lead q x ≡ lead q d) ⊎ (lead q x ≡ lead q e)
-    join-either x j w =
-        ⊎-elim (λ y. inl (lead-now x ∙ y ∙ sym (lead-now d))) (λ y. inr (lead-now x ∙ y ∙ sym (lead-now e)))
-        (law .either x j (sym (lead-orbit p x) ∙ w ∙ lead-orbit p d))
-
-    pub join-lead : (x : ℕ) → x < K → (lead p x ≡ lead p d → ⊥) → lead q x ≡ lead p x
-    join-lead x j w = lead-now x ∙ law .other x j (λ y. w (lead-orbit p x ∙ y ∙ sym (lead-orbit p d))) ∙ sym (lead-orbit p x)
+    join-faces = faces-orbits q ∙ ap (orbits (after q)) darts-now ∙ law .0 ∙ ap (λ (c : ℕ). c + 1) (sym (faces-orbits p))
 
     -- darts that are in one face now were in one
     pub join-finer : (x y : ℕ) → x < K → y < K → lead q x ≡ lead q y → lead p x ≡ lead p y
-    join-finer x y i j w = lead-orbit p x ∙ law .finer x y i j (sym (lead-now x) ∙ w ∙ lead-now y) ∙ sym (lead-orbit p y)
+    join-finer x y i j w = lead-orbit p x ∙ law .1 x y i j (sym (lead-now x) ∙ w ∙ lead-now y) ∙ sym (lead-orbit p y)
 
     join-connected : connected p ≡ true → connected q ≡ true
     join-connected c =

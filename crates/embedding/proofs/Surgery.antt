@@ -1,7 +1,6 @@
 -- The faces of a plate are the orbits of the crate maps, so its surgeries count them: none more by a split or a hanging strip, one more by a join.
 use mathlib.Core.Path.{_≡_, sym, ap, subst, _∙_}
 use mathlib.Core.List.{List}
-use mathlib.Core.Logic.{_⊎_}
 use Prim.Native.Nat.{ℕ, suc, _+_, _*_, _/_, _%_, _<_}
 use native.Mathlib.Omega.{arith}
 use lib.ListN.{length}
@@ -12,7 +11,7 @@ use Rattle.finite.proofs.Orbit.{leadIn}
 use Rattle.maps.specs.Maps.{orbits}
 use Rattle.maps.proofs.Splits.{split-faces, split-lead}
 use Rattle.maps.proofs.Hangs.{hang-faces, hang-lead}
-use Rattle.maps.proofs.Joins.{join-faces, join-apart, join-either, join-other, join-finer}
+use Rattle.maps.proofs.Joins.{join-faces, join-finer}
 use Rattle.embedding.specs.Plates.{when, Plate, darts, twin, after, isLowest, faces}
 use Rattle.embedding.specs.Read.{lead}
 use Rattle.embedding.proofs.Faces.{face-is, sum-over-faces}
@@ -58,18 +57,14 @@ module _ (next after : ℕ → ℕ) where
           let h : Hung next after m d = record { at = a; end = b; back = c; other = f } in
           (hang-faces next after m d F l h, hang-lead next after m d F l h)
 
-  -- one face more: that of d falls in two, and no other changes
-  pub record Divided (n d e : ℕ) : Type 0 where
-    pub count : orbits after (suc (suc n)) ≡ orbits next n + 1
-    pub apart : leadIn after (suc (suc n)) d ≡ leadIn after (suc (suc n)) e → ⊥
-    pub either : (x : ℕ) → x < n → leadIn next n x ≡ leadIn next n d → (leadIn after (suc (suc n)) x ≡ leadIn after (suc (suc n)) d) ⊎ (leadIn after (suc (suc n)) x ≡ leadIn after (suc (suc n)) e)
-    pub other : (x : ℕ) → x < n → (leadIn next n x ≡ leadIn next n d → ⊥) → leadIn after (suc (suc n)) x ≡ leadIn next n x
-    pub finer : (x y : ℕ) → x < n → y < n → leadIn after (suc (suc n)) x ≡ leadIn after (suc (suc n)) y → leadIn next n x ≡ leadIn next n y
+  -- one face more, and darts that are in one face now were in one
+  abbrev pub Divided : ℕ → Type 0
+  Divided n = (orbits after (suc (suc n)) ≡ orbits next n + 1) × ((x y : ℕ) → x < n → y < n → leadIn after (suc (suc n)) x ≡ leadIn after (suc (suc n)) y → leadIn next n x ≡ leadIn next n y)
 
   abbrev JoinLaw : ℕ → ℕ → ℕ → Type 0
   JoinLaw d e n =
       OneToOne next n → d < n → e < n → (d ≡ e → ⊥) → leadIn next n d ≡ leadIn next n e → after d ≡ n → after n ≡ next e → after e ≡ suc n → after (suc n) ≡ next d
-      → ((x : ℕ) → x < n → (x ≡ d → ⊥) → (x ≡ e → ⊥) → after x ≡ next x) → Divided n d e
+      → ((x : ℕ) → x < n → (x ≡ d → ⊥) → (x ≡ e → ⊥) → after x ≡ next x) → Divided n
 
   pub join-law : (d e n : ℕ) → n % 2 ≡ 0 → JoinLaw d e n
   join-law d e n z = subst (JoinLaw d e) (sym (half n z)) (at (n / 2))
@@ -77,10 +72,4 @@ module _ (next after : ℕ → ℕ) where
       at : (m : ℕ) → JoinLaw d e (2 * m)
       at m F l k n same a b c g f =
           let j : Joined next after m d e = record { from = a; to = b; back-from = c; back-to = g; other = f } in
-          record {
-            count = join-faces next after m d e F l k n j same;
-            apart = join-apart next after m d e F l k n j same;
-            either = join-either next after m d e F l k n j same;
-            other = join-other next after m d e F l k n j same;
-            finer = join-finer next after m d e F l k n j same;
-          }
+          (join-faces next after m d e F l k n j same, join-finer next after m d e F l k n j same)

@@ -59,10 +59,6 @@ abbrev pub replayed : Plate → List Step → Plate
 replayed p [] = p
 replayed p (t ∷ ts) = pick (eqb (stepFault p t) 0) (replayed (stepped p t) ts) p
 
-abbrev pub replayFault : Plate → List Step → ℕ
-replayFault p [] = 0
-replayFault p (t ∷ ts) = pick (eqb (stepFault p t) 0) (replayFault (stepped p t) ts) (stepFault p t)
-
 -- what request E11 asks of plates
 pub record Editing : Type 0 where
   pub step : (p : Plate) → Accepted p → (t : Step) → stepFault p t ≡ 0 → StepHolds p t

@@ -12,7 +12,7 @@ use Rattle.plates.specs.Listing.{Gives}
 use Rattle.plates.specs.Ordering.{bytesIn}
 use Rattle.plates.specs.Limits.{limitAt}
 pub use Rattle.embedding.specs.Edits.{laid, putBefore, rename, renamed, split, hang, join, SplitTable, HangTable, JoinTable, Turned, SameTable, noPost, noStrip, taken, full, noFace, splitFault, hangFault, joinFault}
-pub use Rattle.embedding.specs.Journal.{stepFault, stepped, newFaces, StepTable, OuterStays, StepHolds, replayed, replayFault, Editing}
+pub use Rattle.embedding.specs.Journal.{stepFault, stepped, newFaces, StepTable, OuterStays, StepHolds, replayed, Editing}
 pub use Rattle.embedding.specs.declared.journal.Step.{Step}
 pub use Rattle.embedding.specs.declared.journal.Step.the-variants.{Split, Hang, Join}
 
@@ -36,11 +36,11 @@ plateFields revision p rest =
     ∷ (record { tag = 5; content = p .outer ∷ [] } ∷ rest))))
 
 -- the list of a plate with one strip more than the list fs, with its revision, its limits and the limit n of that strip
-abbrev pub fieldsWith : List Field → Plate → ℕ → List Field
-fieldsWith fs p n = plateFields (contentOf 1 fs) p (limitsWith fs n)
+abbrev pub grownFields : List Field → Plate → ℕ → List Field
+grownFields fs p n = plateFields (contentOf 1 fs) p (limitsWith fs n)
 
 abbrev pub fieldsAfter : List Field → Step → List Field
-fieldsAfter fs t = fieldsWith fs (stepped (plateIn fs) t) (newLimit (contentOf 7 fs) t)
+fieldsAfter fs t = grownFields fs (stepped (plateIn fs) t) (newLimit (contentOf 7 fs) t)
 
 abbrev pub listAfter : List ℕ → Step → List ℕ
 listAfter s t = bytesIn (fieldsAfter (walkAll false s .fields) t)
