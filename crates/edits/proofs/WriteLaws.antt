@@ -28,10 +28,10 @@ use Rattle.plates.specs.Plates.{pick, when}
 use Rattle.plates.specs.Files.{Field, has_tag, content_of, walk_all, field}
 use Rattle.plates.specs.Read.{Walked}
 use Rattle.plates.specs.Ordering.{bytes_in}
-use Rattle.plates.specs.Journal.{limitsWith, plate_fields, grown_fields}
+use Rattle.plates.specs.Journal.{limits_with, plate_fields, grown_fields}
 use Rattle.plates.proofs.Contents.{ListFields, list_fields}
 use Rattle.plates.proofs.HeldLists.{walked_content, walked_there}
-use Rattle.plates.proofs.Journal.{plate_fields_long, limits-long}
+use Rattle.plates.proofs.Journal.{plate_fields_long, limits_long}
 use Rattle.plates.proofs.ListingRows.{gives_short, gives_whole}
 use Rattle.edits.specs.Writes.{list_long, LimitsRoom, PlateGiven, PlateRoom}
 
@@ -58,14 +58,14 @@ module _ {s : List ℕ} {f : Fields} (w : Walked s f) where
   limits_are c e = e ∙ walked_content w 6 (lit< tt)
 
   -- no limits, nothing written
-  pub limits_none : (more at : ℕ) (out : List ℕ) → get_or f.seen 6 false ≡ false → Written at (bytes_in (limitsWith fs more)) out out at
+  pub limits_none : (more at : ℕ) (out : List ℕ) → get_or f.seen 6 false ≡ false → Written at (bytes_in (limits_with fs more)) out out at
   limits_none more at out e =
       subst (λ (b : Bool). Written at (bytes_in (pick b (record { tag = 7; content = content_of 7 fs ++ (more ∷ []) } ∷ []) [])) out out at) (sym (sym there ∙ e)) (written_none at out)
 
   -- the limits and one more behind them
   pub limits_some : {at more n : ℕ} {c zeros before all out out' : List ℕ} → get_or f.seen 6 false ≡ true → c ≡ bytes_of s f 6 → length zeros ≡ 256
       → Appended 0 c zeros before → Appended (length c) (more ∷ []) before all → Written at (field 7 (take (length c + 1) all)) out out' n
-      → Written at (bytes_in (limitsWith fs more)) out out' n
+      → Written at (bytes_in (limits_with fs more)) out out' n
   limits_some {at} {more} {n} {c} {zeros} {before} {all} {out} {out'} e q size first last h =
       subst (λ (b : Bool). Written at (bytes_in (pick b (record { tag = 7; content = content_of 7 fs ++ (more ∷ []) } ∷ []) [])) out out' n) (sym (sym there ∙ e))
       (subst (λ (x : List ℕ). Written at x out out' n) (ap (field 7) whole ∙ sym (append-nil (field 7 (content_of 7 fs ++ (more ∷ []))))) h)
@@ -137,7 +137,7 @@ module _ {s : List ℕ} {f : Fields} {q : Held} (g : PlateGiven s f q) where
       -- the length of the list
       pub list_is_long : length (bytes_in (grown_fields gs p more)) ≡ list_long q.darts (has_tag 7 gs)
       list_is_long =
-          omega (arith, plate_fields_long (content_of 1 gs) p (limitsWith gs more), laid_out.revision, ends_long, order_long, limits-long gs more, limits_room)
+          omega (arith, plate_fields_long (content_of 1 gs) p (limits_with gs more), laid_out.revision, ends_long, order_long, limits_long gs more, limits_room)
 
       -- the fields written in a row
       pub fields_written : {n x n1 n2 n3 n4 n5 n6 : ℕ} {c order out o1 o2 o3 o4 o5 o6 : List ℕ} → c ≡ bytes_of s f 0 → n ≡ q.posts → x ≡ q.outer
@@ -148,7 +148,7 @@ module _ {s : List ℕ} {f : Fields} {q : Held} (g : PlateGiven s f q) where
           → Written n2 (field 3 (take q.darts q.ends)) o2 o3 n3 → length o3 ≡ length o2
           → Written n3 (field 4 (take q.darts order)) o3 o4 n4 → length o4 ≡ length o3
           → Written n4 (field 5 (x ∷ [])) o4 o5 n5 → length o5 ≡ length o4
-          → Written n5 (bytes_in (limitsWith gs more)) o5 o6 n6
+          → Written n5 (bytes_in (limits_with gs more)) o5 o6 n6
           → Written 0 (bytes_in (grown_fields gs p more)) out o6 n6
       fields_written {n} {x} {n1} {n2} {n3} {n4} {n5} {n6} {c} {order} {out} {o1} {o2} {o3} {o4} {o5} {o6} rev np xp front room w1 l1 w2 l2 w3 l3 w4 l4 w5 l5 w6 =
           let c-long : length c ≡ 2 = revision_two c rev in
@@ -160,7 +160,7 @@ module _ {s : List ℕ} {f : Fields} {q : Held} (g : PlateGiven s f q) where
           let e4 : n4 ≡ 15 + 2 * q.darts = omega (arith, v4.behind, order_long) in
           let e5 : n5 ≡ 19 + 2 * q.darts = omega (arith, w5.behind) in
           subst (λ (l : List ℕ). Written 0 l out o6 n6)
-          (ap (λ (l : List ℕ). bytes_in (plate_fields l p (limitsWith gs more))) (revision_is c rev))
+          (ap (λ (l : List ℕ). bytes_in (plate_fields l p (limits_with gs more))) (revision_is c rev))
           (written_then (omega arith) w1
           (written_then (omega arith)
           (subst (λ (l : ℕ). Written n1 (field 2 (l ∷ [])) o1 o2 n2) (np ∙ st.same_posts) w2)

@@ -8,7 +8,7 @@ ghost use Rattle.plates.specs.Answers.{listed};
 ghost use Rattle.plates.specs.Files.{walk_all};
 ghost use Rattle.plates.specs.Listing.{Gives};
 ghost use Rattle.plates.specs.Ordering.{bytes_in};
-ghost use Rattle.plates.specs.Journal.{new_limit, limitsWith, grown_fields, EditSays};
+ghost use Rattle.plates.specs.Journal.{new_limit, limits_with, grown_fields, EditSays};
 ghost use Rattle.edits.specs.Writes.{list_long, LimitsRoom, PlateGiven, PlateRoom};
 
 use embedding::Plate;
@@ -61,7 +61,7 @@ fn list_long(darts: usize, limited: bool) -> usize
 // Writes the limits of a list with one more behind them from `at` on, if it has any, and gives the place behind them.
 fn write_limits(list: &[u8], f: Fields, more: u8, out: &mut [u8], at: usize) -> usize
     requires { LimitsRoom list.now f at (length out.old) }
-    ensures { Written at (bytes_in (limitsWith (walk_all false list.now).fields more)) out.old out.new result }
+    ensures { Written at (bytes_in (limits_with (walk_all false list.now).fields more)) out.old out.new result }
 {
     let limited = f.seen[6];
     if limited {

@@ -7,8 +7,8 @@ use lib.Dec.{T, eqb, leb}
 use borrow.Author.Tests.{eqb-true, eqb-false, leb-true, ne_eqb}
 use Rattle.finite.specs.Base.{when}
 use Rattle.finite.proofs.Tests.{and_parts}
-use Rattle.fields.specs.Files.{tag_ok, is_known, tag_in, long_ok}
-use Rattle.fields.specs.Rules.{is_tag, keeps, rule_of, rule_in, rule_number, RuleIs, RuleBy, first_tag}
+use Rattle.fields.specs.Files.{tag_ok, long_ok}
+use Rattle.fields.specs.Rules.{is_tag, keeps, rule_of, rule_number, RuleIs, first_tag}
 use Rattle.fields.specs.declared.Rule.{Rule}
 use Rattle.fields.specs.declared.Rule.TheVariants.{Exactly, EvenUpTo, UpTo, NoTag}
 
@@ -41,8 +41,8 @@ no_tag k t r f = record { tag = rw (r, f); long = λ n e. absurd (subst T (sym e
 pub above_four : (t : ℕ) → (t ≡ 1 → ⊥) → (t ≡ 2 → ⊥) → (t ≡ 3 → ⊥) → (t ≡ 4 → ⊥) → 1 ≤ t → 5 ≤ t
 above_four t n1 n2 n3 n4 l = omega arith
 
-five_to_eight : (t : ℕ) → (t ≡ 5 → ⊥) → (t ≡ 6 → ⊥) → (t ≡ 7 → ⊥) → (t ≡ 8 → ⊥) → 5 ≤ t → t ≤ 8 → ⊥
-five_to_eight t n5 n6 n7 n8 l h = omega arith
+five_to_seven : (t : ℕ) → (t ≡ 5 → ⊥) → (t ≡ 6 → ⊥) → (t ≡ 7 → ⊥) → 5 ≤ t → t ≤ 7 → ⊥
+five_to_seven t n5 n6 n7 l h = omega arith
 
 pub agrees : (k : Bool) (t : ℕ) → Agrees k t
 agrees false t =
@@ -53,20 +53,18 @@ agrees false t =
     at_or (Agrees false) 5 t (record { tag = refl; long = λ n e. refl }) λ n5.
     at_or (Agrees false) 6 t (record { tag = refl; long = λ n e. refl }) λ n6.
     at_or (Agrees false) 7 t (record { tag = refl; long = λ n e. refl }) λ n7.
-    at_or (Agrees false) 8 t (record { tag = refl; long = λ n e. refl }) λ n8.
     no_tag false t
-    (simp (ne_eqb t 1 n1, ne_eqb t 2 n2, ne_eqb t 3 n3, ne_eqb t 4 n4, ne_eqb t 5 n5, ne_eqb t 6 n6, ne_eqb t 7 n7, ne_eqb t 8 n8))
-    (outside 1 8 t (λ l h. five_to_eight t n5 n6 n7 n8 (above_four t n1 n2 n3 n4 l) h))
+    (simp (ne_eqb t 1 n1, ne_eqb t 2 n2, ne_eqb t 3 n3, ne_eqb t 4 n4, ne_eqb t 5 n5, ne_eqb t 6 n6, ne_eqb t 7 n7))
+    (outside 1 7 t (λ l h. five_to_seven t n5 n6 n7 (above_four t n1 n2 n3 n4 l) h))
 agrees true t =
     at_or (Agrees true) 17 t (record { tag = refl; long = λ n e. refl }) λ n17.
     at_or (Agrees true) 18 t (record { tag = refl; long = λ n e. refl }) λ n18.
     at_or (Agrees true) 19 t (record { tag = refl; long = λ n e. refl }) λ n19.
     at_or (Agrees true) 20 t (record { tag = refl; long = λ n e. refl }) λ n20.
     at_or (Agrees true) 21 t (record { tag = refl; long = λ n e. refl }) λ n21.
-    at_or (Agrees true) 22 t (record { tag = refl; long = λ n e. refl }) λ n22.
     no_tag true t
-    (simp (outside 17 18 t (omega arith), outside 19 20 t (omega arith), ne_eqb t 21 n21, ne_eqb t 22 n22))
-    (outside 17 22 t (omega arith))
+    (simp (outside 17 18 t (omega arith), outside 19 20 t (omega arith), ne_eqb t 21 n21))
+    (outside 17 21 t (omega arith))
 
 -- a rule's number is that of refusal 2
 number_by : (r : Rule) → rule_number r ≡ when (not (is_tag r)) 2
@@ -83,35 +81,15 @@ rule_is k t r e =
       long = λ n o. ap (λ (q : Rule). keeps q n) e ∙ (agrees k t).long n o;
     }
 
--- the same by a walk that does not know every tag
-pub record AgreesBy (o k : Bool) (t : ℕ) : Type 0 where
-  pub tag : is_tag (rule_in o k t) ≡ tag_in o k t
-  pub long : (n : ℕ) → tag_in o k t ≡ true → keeps (rule_in o k t) n ≡ long_ok k t n
-
-pub agrees_by : (o k : Bool) (t : ℕ) → AgreesBy o k t
-agrees_by o k t = go (is_known o k t) refl
-  where
-    go : (b : Bool) → is_known o k t ≡ b → AgreesBy o k t
-    go true e = record { tag = rw e (agrees k t).tag; long = λ n h. rw e ((agrees k t).long n (and_parts (is_known o k t) (tag_ok k t) h).1) }
-    go false e = record { tag = rw e; long = λ n h. absurd (subst T (sym h ∙ ap (λ (b : Bool). b && tag_ok k t) e) tt) }
-
-pub rule_by : (o k : Bool) (t : ℕ) (r : Rule) → r ≡ rule_in o k t → RuleBy o k t r
-rule_by o k t r e =
-    record {
-      rule = e;
-      number = number_by r ∙ ap (λ (b : Bool). when (not b) 2) (ap is_tag e ∙ (agrees_by o k t).tag);
-      long = λ n h. ap (λ (q : Rule). keeps q n) e ∙ (agrees_by o k t).long n h;
-    }
-
 -- a tag of a file stands in the file's range
-pub tag_from : (k : Bool) (t : ℕ) → tag_ok k t ≡ true → (first_tag k ≤ t) × (t < first_tag k + 8)
+pub tag_from : (k : Bool) (t : ℕ) → tag_ok k t ≡ true → (first_tag k ≤ t) × (t < first_tag k + 7)
 tag_from true t e =
-    let (a, b) = and_parts (leb 17 t) (leb t 22) e in
+    let (a, b) = and_parts (leb 17 t) (leb t 21) e in
     let l : 17 ≤ t = leb-true 17 t a in
-    let h : t ≤ 22 = leb-true t 22 b in
+    let h : t ≤ 21 = leb-true t 21 b in
     omega arith
 tag_from false t e =
-    let (a, b) = and_parts (leb 1 t) (leb t 8) e in
+    let (a, b) = and_parts (leb 1 t) (leb t 7) e in
     let l : 1 ≤ t = leb-true 1 t a in
-    let h : t ≤ 8 = leb-true t 8 b in
+    let h : t ≤ 7 = leb-true t 7 b in
     omega arith

@@ -11,11 +11,10 @@ pub mod Bytes
 pub mod Laid
 pub mod Runs
 pub mod Ascent
-pub mod Comes
 pub mod Rising
 pub mod RunBytes
 pub mod Sorted
-pub mod Earlier
+pub mod SixTags
 pub mod Replaced
 pub mod Remarked
 pub mod PassedOver

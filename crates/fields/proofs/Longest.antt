@@ -78,25 +78,25 @@ module _ (k : Bool) (fs : List Field) (s : List ℕ) where
   abbrev t : ℕ
   t = get_or s 0 0
 
-  pub front_takes : tag_ok k t ≡ true → has_tag t fs ≡ false → long_ok k t (head_long s) ≡ true → room 8 k (add_field fs (field_at s)) + (3 + head_long s) ≤ room 8 k fs
+  pub front_takes : tag_ok k t ≡ true → has_tag t fs ≡ false → long_ok k t (head_long s) ≡ true → room 7 k (add_field fs (field_at s)) + (3 + head_long s) ≤ room 7 k fs
   front_takes tag new long =
       let b = tag_from k t tag in
       let i = slot_of k t in
       let own : tag_at k i ≡ t = omega arith in
-      let low : i < 8 = omega arith in
+      let low : i < 7 = omega arith in
       omega (
         arith,
-        room_less k fs (field_at s) new i own 8 low,
+        room_less k fs (field_at s) new i own 7 low,
         kept_room (rule_of k t) (head_long s) ((agrees k t).long (head_long s) tag ∙ long),
       )
 
-longest_from : (o : Bool) (l : ℕ) (k : Bool) (fs : List Field) (s : List ℕ) → length s < l → (fields_by o l k fs s).number ≡ 0 → length s ≤ room 8 k fs
+longest_from : (o : Bool) (l : ℕ) (k : Bool) (fs : List Field) (s : List ℕ) → length s < l → (fields_by o l k fs s).number ≡ 0 → length s ≤ room 7 k fs
 longest_from o zero k fs s h e = absurd (omega arith)
 longest_from o (suc l) k fs s h e = go (eqb (length s) 0) refl (eqb (fault_by o k fs s) 0) refl (longest_from o l k (add_field fs (field_at s)) (drop (3 + head_long s) s))
   where
     go : (a : Bool) → eqb (length s) 0 ≡ a → (b : Bool) → eqb (fault_by o k fs s) 0 ≡ b
-        → (length (drop (3 + head_long s) s) < l → (fields_by o l k (add_field fs (field_at s)) (drop (3 + head_long s) s)).number ≡ 0 → length (drop (3 + head_long s) s) ≤ room 8 k (add_field fs (field_at s)))
-        → length s ≤ room 8 k fs
+        → (length (drop (3 + head_long s) s) < l → (fields_by o l k (add_field fs (field_at s)) (drop (3 + head_long s) s)).number ≡ 0 → length (drop (3 + head_long s) s) ≤ room 7 k (add_field fs (field_at s)))
+        → length s ≤ room 7 k fs
     go true p b q ih = let z : length s ≡ 0 = eqb-true (length s) 0 p in omega arith
     go false p false q ih =
         let n : fault_by o k fs s ≡ 0 = sym (ap (λ (w : Walk). w.number) (from_fault o l k fs s p q)) ∙ e in
@@ -109,13 +109,13 @@ longest_from o (suc l) k fs s h e = go (eqb (length s) 0) refl (eqb (fault_by o 
         let less = ih (omega arith) (sym (ap (λ (w : Walk). w.number) (from_met o l k fs s p q)) ∙ e) in
         omega (arith, front_takes k fs s f.tag f.new f.long)
 
-pub list_longest : (s : List ℕ) → (walk_all false s).number ≡ 0 → length s ≤ 876
+pub list_longest : (s : List ℕ) → (walk_all false s).number ≡ 0 → length s ≤ 745
 list_longest s e = longest_from true (suc (length s)) false [] s (omega arith) e
 
-pub shape_longest : (s : List ℕ) → (walk_all true s).number ≡ 0 → length s ≤ 618
+pub shape_longest : (s : List ℕ) → (walk_all true s).number ≡ 0 → length s ≤ 611
 shape_longest s e = longest_from true (suc (length s)) true [] s (omega arith) e
 
 -- in any order too
-pub older_longest : (k : Bool) (s : List ℕ) → (old_walk k s).number ≡ 0 → length s ≤ 876
-older_longest true s e = let l : length s ≤ 618 = longest_from false (suc (length s)) true [] s (omega arith) e in omega arith
+pub older_longest : (k : Bool) (s : List ℕ) → (old_walk k s).number ≡ 0 → length s ≤ 745
+older_longest true s e = let l : length s ≤ 611 = longest_from false (suc (length s)) true [] s (omega arith) e in omega arith
 older_longest false s e = longest_from false (suc (length s)) false [] s (omega arith) e

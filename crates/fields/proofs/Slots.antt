@@ -33,7 +33,7 @@ module _ {k : Bool} {s : List ℕ} {f : Fields} (w : OlderWalked k s f) where
   all_kept : kept (old_walk k s) ≡ fs
   all_kept = ap (λ (b : Bool). pick b (old_walk k s).fields []) (eq-eqb (old_walk k s).number 0 w.passed)
 
-  module _ (i : ℕ) (h : i < 8) where
+  module _ (i : ℕ) (h : i < 7) where
     held : Slot s fs (tag_at k i) (get_or f.at i 0) (get_or f.long i 0) (get_or f.seen i false)
     held = subst (λ (x : List Field). Slot s x (tag_at k i) (get_or f.at i 0) (get_or f.long i 0) (get_or f.seen i false)) all_kept (w.holds.slot i h)
 
@@ -63,7 +63,7 @@ module _ {k : Bool} {s : List ℕ} {f : Fields} (w : OlderWalked k s f) where
     pub absent_written : (at : ℕ) (out : List ℕ) → get_or f.seen i false ≡ false → Written at (bytes_in (field_of (tag_at k i) fs)) out out at
     absent_written at out t = subst (λ (x : List ℕ). Written at x out out at) (sym (slot_absent t)) (written_none at out)
 
-    pub older_short : length (bytes_of s f i) ≤ 876
+    pub older_short : length (bytes_of s f i) ≤ 745
     older_short =
         let l = older_longest k s w.passed in
         omega (arith, held.inside, held.size, ap length older_content)
@@ -72,10 +72,10 @@ module _ {k : Bool} {s : List ℕ} {f : Fields} (w : OlderWalked k s f) where
   older_within i h = (held i h).inside
 
   -- room for the fields of the first slots
-  pub slot_room : (i : ℕ) → i < 8 → length (bytes_in (rising i (first_tag k) fs)) + length (bytes_in (field_of (tag_at k i) fs)) ≤ length s
+  pub slot_room : (i : ℕ) → i < 7 → length (bytes_in (rising i (first_tag k) fs)) + length (bytes_in (field_of (tag_at k i) fs)) ≤ length s
   slot_room i h =
       let (d, p) = le_dest h in
-      let e : suc i + d ≡ 8 = p in
+      let e : suc i + d ≡ 7 = p in
       let m : length (bytes_in (rising (suc i + d) (first_tag k) fs)) ≡ length (bytes_in (sorted k fs)) = ap (λ (n : ℕ). length (bytes_in (rising n (first_tag k) fs))) e in
       omega (arith, more_long i (first_tag k) fs, rising_most (suc i) d (first_tag k) fs, m, sorted_size k s w.passed)
 

@@ -42,8 +42,8 @@ none_slot s t = record { there = refl; place = refl; size = refl; inside = omega
 abbrev pub Held : Bool → List ℕ → List Field → List ℕ → List ℕ → List Bool → ℕ → Type 0
 Held k s fs at long seen i = Slot s fs (tag_at k i) (get_or at i 0) (get_or long i 0) (get_or seen i false)
 
-none_held : (k : Bool) (s : List ℕ) (i : ℕ) → i < 8 → Held k s [] (replicate 8 0) (replicate 8 0) (replicate 8 false) i
-none_held k s i h = rw (get_or-replicate {A = ℕ} 8 i 0 0 h, get_or-replicate 8 i false false h) (none_slot s (tag_at k i))
+none_held : (k : Bool) (s : List ℕ) (i : ℕ) → i < 7 → Held k s [] (replicate 7 0) (replicate 7 0) (replicate 7 false) i
+none_held k s i h = rw (get_or-replicate {A = ℕ} 7 i 0 0 h, get_or-replicate 7 i false false h) (none_slot s (tag_at k i))
 
 -- a field of another tag leaves a slot as it is
 other_slot : (s : List ℕ) (fs : List Field) (f : Field) (t a n : ℕ) (b : Bool) → eqb t f.tag ≡ false → Slot s fs t a n b → Slot s (add_field fs f) t a n b
@@ -61,7 +61,7 @@ and_one : (b : Bool) → (b && true) ≡ b
 and_one true = refl
 and_one false = refl
 
-all_of : (k : Bool) (fs : List Field) (seen : List Bool) → ((i : ℕ) → i < 8 → get_or seen i false ≡ has_tag (tag_at k i) fs) → all_seen k seen ≡ all_there k fs
+all_of : (k : Bool) (fs : List Field) (seen : List Bool) → ((i : ℕ) → i < 7 → get_or seen i false ≡ has_tag (tag_at k i) fs) → all_seen k seen ≡ all_there k fs
 all_of true fs seen h = rw (h 0 (lit< tt), h 1 (lit< tt), h 2 (lit< tt), h 3 (lit< tt), and_one)
 all_of false fs seen h = rw (h 0 (lit< tt), h 1 (lit< tt), h 2 (lit< tt), h 3 (lit< tt), h 4 (lit< tt))
 
@@ -74,16 +74,16 @@ pub record Going (o k : Bool) (s at long : List ℕ) (seen : List Bool) (low nex
   pub rest : walk_by o k s ≡ fields_by o fuel k fs (drop next s)
   pub last : low ≡ pick o (last_tag fs) 0
   pub ends : next ≡ end_from 0 fs
-  pub slots : (i : ℕ) → i < 8 → Held k s fs at long seen i
-  pub long_at : length at ≡ 8
-  pub long_long : length long ≡ 8
-  pub long_seen : length seen ≡ 8
+  pub slots : (i : ℕ) → i < 7 → Held k s fs at long seen i
+  pub long_at : length at ≡ 7
+  pub long_long : length long ≡ 7
+  pub long_seen : length seen ≡ 7
 
 zero_low : (o : Bool) → ◌≡◌ {A = ℕ} 0 (pick o 0 0)
 zero_low true = refl
 zero_low false = refl
 
-pub going_start : (o k : Bool) (s : List ℕ) → Going o k s (replicate 8 0) (replicate 8 0) (replicate 8 false) 0 0
+pub going_start : (o k : Bool) (s : List ℕ) → Going o k s (replicate 7 0) (replicate 7 0) (replicate 7 false) 0 0
 going_start o k s =
     record {
       fuel = suc (length s);
@@ -104,7 +104,7 @@ pub refused_holds : (o k : Bool) (s : List ℕ) (e : ℕ) (fs : List Field) → 
 refused_holds o k s e fs w n =
     record {
       number = ap (λ (v : Walk). v.number) (sym w);
-      slot = λ i h. subst (λ (v : List Field). Held k s v (replicate 8 0) (replicate 8 0) (replicate 8 false) i) (sym none) (none_held k s i h);
+      slot = λ i h. subst (λ (v : List Field). Held k s v (replicate 7 0) (replicate 7 0) (replicate 7 false) i) (sym none) (none_held k s i h);
     }
   where
     none : kept (walk_by o k s) ≡ []
@@ -128,7 +128,7 @@ module _ (o k : Bool) (s at long : List ℕ) (seen : List Bool) (low next : ℕ)
   f = field_at r
 
   abbrev fault : ℕ
-  fault = front_fault o k seen low r
+  fault = front_fault k seen low r
 
   -- the tag's slot says whether it was met
   seen_is : tag_ok k t ≡ true → get_or seen slot false ≡ has_tag t g.fs
@@ -142,8 +142,8 @@ module _ (o k : Bool) (s at long : List ℕ) (seen : List Bool) (low next : ℕ)
 
   fault_is : fault_by o k g.fs r ≡ fault
   fault_is =
-      ap (λ (b : Bool). fault_where o k (has_tag t g.fs) b r) (sym below)
-      ∙ sym (fault_same o k (get_or seen slot false) (has_tag t g.fs) (ltb t low) r seen_is)
+      ap (λ (b : Bool). fault_where k (has_tag t g.fs) b r) (sym below)
+      ∙ sym (fault_same k (get_or seen slot false) (has_tag t g.fs) (ltb t low) r seen_is)
 
   tag-at : next < length s → t ≡ get_or s next 0
   tag-at h = get_or-drop next s 0 0 ∙ ap (λ (i : ℕ). get_or s i 0) (add-zero next)
@@ -163,7 +163,7 @@ module _ (o k : Bool) (s at long : List ℕ) (seen : List Bool) (low next : ℕ)
   rest_from l e = subst (λ (x : ℕ). walk_by o k s ≡ fields_by o x k g.fs r) e g.rest
 
   module _ (here : next < length s) where
-    pub going_fault : (e : ℕ) → Fault e ≡ front_of o k seen low r → HoldsBy o k s (refused_by e)
+    pub going_fault : (e : ℕ) → Fault e ≡ front_of k seen low r → HoldsBy o k s (refused_by e)
     going_fault e q =
         let (z, y) = fault-by fault slot n e q in
         let (l, m) = more in
@@ -174,13 +174,13 @@ module _ (o k : Bool) (s at long : List ℕ) (seen : List Bool) (low next : ℕ)
 
     -- the field at the front passed
     module _ (ok : fault ≡ 0) where
-      p : Passed o k (get_or seen slot false) (ltb t low) r
-      p = passed o k (get_or seen slot false) (ltb t low) r ok
+      p : Passed k (get_or seen slot false) (ltb t low) r
+      p = passed k (get_or seen slot false) (ltb t low) r ok
 
       fits : next + 3 + n ≤ length s
       fits = omega (arith, p.size, length-drop next s)
 
-      slot_below : slot < 8
+      slot_below : slot < 7
       slot_below = let b = tag_from k t p.tag in omega arith
 
       slot_tag : tag_at k slot ≡ t
@@ -202,7 +202,7 @@ module _ (o k : Bool) (s at long : List ℕ) (seen : List Bool) (low next : ℕ)
             content = ap (take n) (sym (drop-drop 3 next s)) ∙ sym (content_own f g.fs new);
           }
 
-      slots_on : (j : ℕ) → j < 8 → Held k s (add_field g.fs f) (set at slot (next + 3)) (set long slot n) (set seen slot true) j
+      slots_on : (j : ℕ) → j < 7 → Held k s (add_field g.fs f) (set at slot (next + 3)) (set long slot n) (set seen slot true) j
       slots_on j h = go (eqb j slot) refl
         where
           go : (b : Bool) → eqb j slot ≡ b → Held k s (add_field g.fs f) (set at slot (next + 3)) (set long slot n) (set seen slot true) j
@@ -244,10 +244,10 @@ module _ (o k : Bool) (s at long : List ℕ) (seen : List Bool) (low next : ℕ)
           }
 
     -- a field met: its slot and place, and the walk goes on behind it
-    pub going_met : (i m : ℕ) → Met i m ≡ front_of o k seen low r → (i < 8) × (next + 3 + m ≤ length s) × Going o k s (set at i (next + 3)) (set long i m) (set seen i true) (pick o (get_or s next 0) 0) (next + 3 + m)
+    pub going_met : (i m : ℕ) → Met i m ≡ front_of k seen low r → (i < 7) × (next + 3 + m ≤ length s) × Going o k s (set at i (next + 3)) (set long i m) (set seen i true) (pick o (get_or s next 0) 0) (next + 3 + m)
     going_met i m q =
         let (z, a, b) = met_by fault slot n i m q in
-        subst₂ (λ (i m : ℕ). (i < 8) × (next + 3 + m ≤ length s) × Going o k s (set at i (next + 3)) (set long i m) (set seen i true) (pick o (get_or s next 0) 0) (next + 3 + m))
+        subst₂ (λ (i m : ℕ). (i < 7) × (next + 3 + m ≤ length s) × Going o k s (set at i (next + 3)) (set long i m) (set seen i true) (pick o (get_or s next 0) 0) (next + 3 + m))
         (sym a) (sym b) (slot_below z, fits z, going_on z)
 
   -- the end of the file

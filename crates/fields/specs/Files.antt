@@ -2,27 +2,15 @@
 use Rattle.std.specs.Prelude.{Bool, true, false, ◌&&◌, ◌||◌, not, List, [], ◌∷◌, ◌++◌, ℕ, zero, suc, ◌+◌, ◌*◌, ◌/◌, ◌%◌, eqb, ltb, leb, length, get_or, take, drop}
 use Rattle.finite.specs.Base.{pick, first_of, when}
 
--- which tags a file has, and their lengths; the remark's is 6 in a list, 15 hexadecimal in a shape; 7 are the limits of bends and 8 their prices, a byte a strip; 16 hexadecimal is their priced sum
+-- which tags a file has, and their lengths; the remark's is 6 in a list, 15 hexadecimal in a shape; 7 are the limits of bends, a byte a strip
 abbrev pub tag_ok : Bool → ℕ → Bool
-tag_ok isShape t = pick isShape (leb 17 t && leb t 22) (leb 1 t && leb t 8)
-
--- the tag of the prices in a list, of their sum in a shape: the older files of request E7 have neither
-abbrev pub price_tag : Bool → ℕ
-price_tag isShape = pick isShape 22 8
-
-abbrev pub is_known : Bool → Bool → ℕ → Bool
-is_known inOrder isShape t = inOrder || not (eqb t (price_tag isShape))
-
--- the tags that a walk takes, in order or in any order
-abbrev pub tag_in : Bool → Bool → ℕ → Bool
-tag_in inOrder isShape t = is_known inOrder isShape t && tag_ok isShape t
+tag_ok isShape t = pick isShape (leb 17 t && leb t 21) (leb 1 t && leb t 7)
 
 abbrev pub long_ok : Bool → ℕ → ℕ → Bool
 long_ok isShape t n =
     pick isShape
     (pick (eqb t 17 || eqb t 18) (eqb n 2)
-    (pick (eqb t 19 || eqb t 20) (leb n 256)
-    (pick (eqb t 21) (leb n 80) (eqb n 4))))
+    (pick (eqb t 19 || eqb t 20) (leb n 256) (leb n 80)))
     (pick (eqb t 1) (eqb n 2)
     (pick (eqb t 2 || eqb t 5) (eqb n 1)
     (pick (eqb t 3) (leb n 256 && eqb (n % 2) 0)
@@ -70,20 +58,20 @@ last_tag (f ∷ []) = f.tag
 last_tag (f ∷ (g ∷ fs)) = last_tag (g ∷ fs)
 
 -- refusals 1, 2, 3, 29, 4, 5 of the field at the front of s, told whether its tag was met before and whether it is below the previous one
-abbrev pub fault_where : Bool → Bool → Bool → Bool → List ℕ → ℕ
-fault_where inOrder isShape met below s =
+abbrev pub fault_where : Bool → Bool → Bool → List ℕ → ℕ
+fault_where isShape met below s =
     let t = get_or s 0 0 in
     let n = head_long s in
     first_of (when (ltb (length s) 3) 1)
-    (first_of (when (not (tag_in inOrder isShape t)) 2)
+    (first_of (when (not (tag_ok isShape t)) 2)
     (first_of (when met 3)
     (first_of (when below 29)
     (first_of (when (not (long_ok isShape t n)) 4)
     (when (ltb (length s) (3 + n)) 5)))))
 
--- in order: tags ascend; else in any order, as files were before request E7, and without prices
+-- in order: tags ascend; else in any order, as files were before request E7
 abbrev pub fault_by : Bool → Bool → List Field → List ℕ → ℕ
-fault_by inOrder isShape fs s = let t = get_or s 0 0 in fault_where inOrder isShape (has_tag t fs) (inOrder && ltb t (last_tag fs)) s
+fault_by inOrder isShape fs s = let t = get_or s 0 0 in fault_where isShape (has_tag t fs) (inOrder && ltb t (last_tag fs)) s
 
 abbrev pub field_fault : Bool → List Field → List ℕ → ℕ
 field_fault isShape fs s = fault_by true isShape fs s
@@ -124,10 +112,6 @@ old_walk isShape s = walk_by false isShape s
 -- a number in two bytes, and a field as it stands in a file
 abbrev pub two : ℕ → List ℕ
 two v = v / 256 ∷ (v % 256 ∷ [])
-
--- and in four
-abbrev pub four : ℕ → List ℕ
-four v = two (v / 65536) ++ two (v % 65536)
 
 abbrev pub field : ℕ → List ℕ → List ℕ
 field t c = t ∷ (two (length c) ++ c)

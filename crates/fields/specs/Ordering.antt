@@ -1,7 +1,7 @@
 -- Older files put in tag order: the fields by rising tag, their bytes, what the call promises, and what holds of both walks.
-use Rattle.std.specs.Prelude.{◌≡◌, ◌↔◌, Bool, true, false, ◌&&◌, ◌||◌, not, List, [], ◌∷◌, ◌++◌, ℕ, zero, suc, ◌+◌, ◌≤◌, ◌<◌, eqb, ltb, leb, length, get_or, take, drop}
+use Rattle.std.specs.Prelude.{◌≡◌, ◌↔◌, Bool, true, false, ◌&&◌, not, List, [], ◌∷◌, ◌++◌, ℕ, zero, suc, ◌+◌, ◌≤◌, ◌<◌, ltb, leb, length, get_or, take}
 use Rattle.finite.specs.Base.{pick, first_of, when}
-use Rattle.fields.specs.Files.{Field, walk, price_tag, tag_ok, long_ok, has_tag, content_of, add_field, head_long, field_at, fault_by, walk_all, old_walk, field}
+use Rattle.fields.specs.Files.{Field, walk, tag_ok, long_ok, has_tag, content_of, head_long, fault_by, walk_all, old_walk, field}
 use Rattle.fields.specs.Rules.{first_tag, tag_at}
 use Rattle.fields.specs.Says.{HoldsBy}
 use Rattle.fields.specs.declared.Fields.{Fields}
@@ -17,9 +17,9 @@ abbrev pub rising : ℕ → ℕ → List Field → List Field
 rising zero t fs = []
 rising (suc n) t fs = field_of t fs ++ rising n (suc t) fs
 
--- of the eight tags from a file's first one on: all that it may have
+-- of the seven tags from a file's first one on: all that it may have
 abbrev pub sorted : Bool → List Field → List Field
-sorted isShape fs = rising 8 (first_tag isShape) fs
+sorted isShape fs = rising 7 (first_tag isShape) fs
 
 -- fields as they stand in a file
 abbrev pub bytes_in : List Field → List ℕ
@@ -52,7 +52,7 @@ pub record OlderWalked (isShape : Bool) (s : List ℕ) (f : Fields) : Type 0 whe
 
 pub record SlotRoom (isShape : Bool) (s : List ℕ) (f : Fields) (slot at room : ℕ) : Type 0 where
   pub walked : OlderWalked isShape s f
-  pub below : slot < 8
+  pub below : slot < 7
   pub enough : at + length (bytes_in (field_of (tag_at isShape slot) (old_walk isShape s).fields)) ≤ room
 
 pub record SortedRoom (isShape : Bool) (s : List ℕ) (f : Fields) (room : ℕ) : Type 0 where
@@ -69,22 +69,13 @@ pub record SameBesides (tag : ℕ) (fs gs : List Field) : Type 0 where
   pub there : (t : ℕ) → (t ≡ tag → ⊥) → has_tag t fs ≡ has_tag t gs
   pub content : (t : ℕ) → (t ≡ tag → ⊥) → content_of t fs ≡ content_of t gs
 
--- whether the walk of a file comes to a field of tag t, be it met or refused
-abbrev pub comes_from : Bool → Bool → ℕ → ℕ → List Field → List ℕ → Bool
-comes_from inOrder isShape t zero fs s = false
-comes_from inOrder isShape t (suc l) fs s =
-    eqb t (get_or s 0 0) || (eqb (fault_by inOrder isShape fs s) 0 && comes_from inOrder isShape t l (add_field fs (field_at s)) (drop (3 + head_long s) s))
-
-abbrev pub comes_to : Bool → Bool → ℕ → List ℕ → Bool
-comes_to inOrder isShape t s = comes_from inOrder isShape t (suc (length s)) [] s
-
--- a field's refusals before request E7; the prices of bends and their sum are no tags of older files
+-- a field's refusals before request E7
 abbrev pub old_fault : Bool → List Field → List ℕ → ℕ
 old_fault isShape fs s =
     let t = get_or s 0 0 in
     let n = head_long s in
     first_of (when (ltb (length s) 3) 1)
-    (first_of (when (not (not (eqb t (price_tag isShape)) && tag_ok isShape t)) 2)
+    (first_of (when (not (tag_ok isShape t)) 2)
     (first_of (when (has_tag t fs) 3)
     (first_of (when (not (long_ok isShape t n)) 4)
     (when (ltb (length s) (3 + n)) 5))))
@@ -106,18 +97,16 @@ pub record TagOrder : Type 0 where
   pub taken : (s : List ℕ) → (old_walk (is_shape_file s) s).number ≡ 0 → Taken s
   -- two older files of one kind with the same fields, in whatever order, come out as the same bytes
   pub one_out : (s t : List ℕ) → is_shape_file s ≡ is_shape_file t → SameFields (old_walk (is_shape_file s) s).fields (old_walk (is_shape_file t) t).fields → ordered_bytes s ≡ ordered_bytes t
-  -- a file in order, without prices and their sum, comes back unchanged
-  pub unchanged : (k : Bool) (s : List ℕ) → all_bytes s ≡ true → (walk_all k s).number ≡ 0 → has_tag (price_tag k) (walk_all k s).fields ≡ false → (is_shape_file s ≡ k) × (ordered_bytes s ≡ s)
+  -- a file in order comes back unchanged
+  pub unchanged : (k : Bool) (s : List ℕ) → all_bytes s ≡ true → (walk_all k s).number ≡ 0 → (is_shape_file s ≡ k) × (ordered_bytes s ≡ s)
   -- two files that are taken and have the same fields are the same bytes
   pub canonical : (k : Bool) (s t : List ℕ) → all_bytes s ≡ true → all_bytes t ≡ true → (walk_all k s).number ≡ 0 → (walk_all k t).number ≡ 0
       → SameFields (walk_all k s).fields (walk_all k t).fields → s ≡ t
-  -- of files without them the walk takes exactly the older ones whose tags ascend; those whose tags do not it refuses with 29
-  pub exactly : (k : Bool) (s : List ℕ) → (((walk_all k s).number ≡ 0) × (has_tag (price_tag k) (walk_all k s).fields ≡ false)) ↔ (((old_walk k s).number ≡ 0) × (ascends 0 (old_walk k s).fields ≡ true))
+  -- the walk takes exactly the older files whose tags ascend; those whose tags do not it refuses with 29
+  pub exactly : (k : Bool) (s : List ℕ) → ((walk_all k s).number ≡ 0) ↔ (((old_walk k s).number ≡ 0) × (ascends 0 (old_walk k s).fields ≡ true))
   pub out_of_order : (k : Bool) (s : List ℕ) → (old_walk k s).number ≡ 0 → ascends 0 (old_walk k s).fields ≡ false → (walk_all k s).number ≡ 29
-  -- every file in which the walk does not come to them, taken or refused, unless with 29, is answered as by the old walk
-  pub as_before : (k : Bool) (s : List ℕ) → comes_to true k (price_tag k) s ≡ false → ((walk_all k s).number ≡ 29 → ⊥) → walk_all k s ≡ old_walk k s
-  -- one that is taken with them the old walk refuses with 2
-  pub unknown : (k : Bool) (s : List ℕ) → (walk_all k s).number ≡ 0 → has_tag (price_tag k) (walk_all k s).fields ≡ true → (is_shape_file s ≡ k) × ((old_walk k s).number ≡ 2)
+  -- every file, taken or refused, unless with 29, is answered as by the old walk
+  pub as_before : (k : Bool) (s : List ℕ) → ((walk_all k s).number ≡ 29 → ⊥) → walk_all k s ≡ old_walk k s
   -- the old walk tries 1 to 5 at a field and never gives 29
   pub old-fault : (k : Bool) (fs : List Field) (s : List ℕ) → fault_by false k fs s ≡ old_fault k fs s
   pub old_number : (k : Bool) (s : List ℕ) → (old_walk k s).number ≤ 6

@@ -24,18 +24,18 @@ pub record Slot (s : List ℕ) (fs : List Field) (t : ℕ) (at long : ℕ) (seen
 
 pub record HoldsBy (inOrder isShape : Bool) (s : List ℕ) (f : Fields) : Type 0 where
   pub number : f.number ≡ (walk_by inOrder isShape s).number
-  pub slot : (i : ℕ) → i < 8 → Slot s (kept (walk_by inOrder isShape s)) (tag_at isShape i) (get_or f.at i 0) (get_or f.long i 0) (get_or f.seen i false)
+  pub slot : (i : ℕ) → i < 7 → Slot s (kept (walk_by inOrder isShape s)) (tag_at isShape i) (get_or f.at i 0) (get_or f.long i 0) (get_or f.seen i false)
 
 abbrev pub Holds : Bool → List ℕ → Fields → Type 0
 Holds isShape s f = HoldsBy true isShape s f
 
 -- a refusal gives its number alone
 abbrev pub refused_by : ℕ → Fields
-refused_by e = record { number = e; at = replicate 8 0; long = replicate 8 0; seen = replicate 8 false }
+refused_by e = record { number = e; at = replicate 7 0; long = replicate 7 0; seen = replicate 7 false }
 
 -- for a reader: each slot stands within the file, and its bytes; `Holds` gives the one, and `content` of its slot what the other is
 abbrev pub Within : List ℕ → Fields → Type 0
-Within s f = (i : ℕ) → i < 8 → get_or f.at i 0 + get_or f.long i 0 ≤ length s
+Within s f = (i : ℕ) → i < 7 → get_or f.at i 0 + get_or f.long i 0 ≤ length s
 
 abbrev pub bytes_of : List ℕ → Fields → ℕ → List ℕ
 bytes_of s f i = take (get_or f.long i 0) (drop (get_or f.at i 0) s)

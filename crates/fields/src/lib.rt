@@ -1,7 +1,7 @@
 // The walk over the fields of a plate list or a shape file.
 ghost use Rattle.std.specs.Prelude.{◌≡◌, true, false, ◌<◌, get_or};
-ghost use Rattle.fields.specs.Files.{tag_ok, is_known};
-ghost use Rattle.fields.specs.Rules.{RuleIs, RuleBy, FrontIs, keeps, slot_of, all_seen};
+ghost use Rattle.fields.specs.Files.{tag_ok};
+ghost use Rattle.fields.specs.Rules.{RuleIs, FrontIs, keeps, slot_of, all_seen};
 ghost use Rattle.finite.specs.Base.{pick};
 ghost use Rattle.fields.specs.Says.{Holds, HoldsBy, Within, bytes_of, word, refused_by};
 
@@ -28,9 +28,9 @@ enum Front {
 #[derive(Drop)]
 pub struct Fields {
     pub number: u8,
-    pub at: [usize; 8],
-    pub long: [usize; 8],
-    pub seen: [bool; 8],
+    pub at: [usize; 7],
+    pub long: [usize; 7],
+    pub seen: [bool; 7],
 }
 
 // The rule of a tag of a plate list.
@@ -43,7 +43,7 @@ pub fn list_rule(tag: u8) -> Rule
         0x03 => Rule::EvenUpTo(256),
         0x04 => Rule::UpTo(256),
         0x06 => Rule::UpTo(80),
-        0x07 | 0x08 => Rule::UpTo(128),
+        0x07 => Rule::UpTo(128),
         _ => Rule::NoTag,
     }
 }
@@ -56,31 +56,14 @@ pub fn shape_rule(tag: u8) -> Rule
         0x11..=0x12 => Rule::Exactly(2),
         0x13..=0x14 => Rule::UpTo(256),
         0x15 => Rule::UpTo(80),
-        0x16 => Rule::Exactly(4),
         _ => Rule::NoTag,
     }
 }
 
-// Whether the walk knows the tag: files in any order have no prices, nor their sum.
-fn is_known(shape: bool, in_order: bool, tag: u8) -> bool
-    ensures { result ≡ is_known in_order shape tag }
-{
-    if in_order {
-        return true;
-    }
-    if shape {
-        return tag != 0x16;
-    }
-    tag != 0x08
-}
-
 // The rule of a tag of this file.
-fn rule_of(shape: bool, in_order: bool, tag: u8) -> Rule
-    ensures { RuleBy in_order shape tag result }
+fn rule_of(shape: bool, tag: u8) -> Rule
+    ensures { RuleIs shape tag result }
 {
-    if !is_known(shape, in_order, tag) {
-        return Rule::NoTag;
-    }
     if shape {
         shape_rule(tag)
     } else {
@@ -119,15 +102,15 @@ fn slot_of(shape: bool, tag: u8) -> usize
 }
 
 // The field at the front of `s`, with the slots seen before it and the tag that it may not be below: all six refusals, then the field.
-fn step(s: &[u8], shape: bool, in_order: bool, seen: [bool; 8], low: u8) -> Front
-    ensures { FrontIs in_order shape seen low s.now result }
+fn step(s: &[u8], shape: bool, seen: [bool; 7], low: u8) -> Front
+    ensures { FrontIs shape seen low s.now result }
 {
     let left = s.len();
     if left < 3 {
         return Front::Fault(1);
     }
     let tag = s[0];
-    let rule = rule_of(shape, in_order, tag);
+    let rule = rule_of(shape, tag);
     if let Rule::NoTag = rule {
         return Front::Fault(2);
     }
@@ -151,8 +134,8 @@ fn step(s: &[u8], shape: bool, in_order: bool, seen: [bool; 8], low: u8) -> Fron
     Front::Met { slot, long }
 }
 
-// Every field but the remark, the limits, the prices and their sum was seen.
-fn all_seen(shape: bool, seen: [bool; 8]) -> bool
+// Every field but the remark and the limits was seen.
+fn all_seen(shape: bool, seen: [bool; 7]) -> bool
     ensures { result ≡ all_seen shape seen }
 {
     seen[0] && (seen[1] && (seen[2] && (seen[3] && (shape || seen[4]))))
@@ -164,9 +147,9 @@ fn refused(number: u8) -> Fields
 {
     Fields {
         number,
-        at: [0; 8],
-        long: [0; 8],
-        seen: [false; 8],
+        at: [0; 7],
+        long: [0; 7],
+        seen: [false; 7],
     }
 }
 
@@ -184,14 +167,14 @@ fn lowest_after(in_order: bool, tag: u8) -> u8
 fn walk(s: &[u8], shape: bool, in_order: bool) -> Fields
     ensures { HoldsBy in_order shape s.now result }
 {
-    let mut at = [0usize; 8];
-    let mut long = [0usize; 8];
-    let mut seen = [false; 8];
+    let mut at = [0usize; 7];
+    let mut long = [0usize; 7];
+    let mut seen = [false; 7];
     let mut low = 0u8;
     let mut next = 0;
     while s.len() - next > 0 {
         let tag = s[next];
-        let front = step(&s[next..], shape, in_order, seen, low);
+        let front = step(&s[next..], shape, seen, low);
         match front {
             Front::Fault(number) => {
                 return refused(number);
@@ -240,7 +223,7 @@ pub fn walk_older(s: &[u8], shape: bool) -> Fields
 
 // The content of a slot; empty where the field is absent.
 pub fn content(s: &[u8], f: Fields, slot: usize) -> &[u8]
-    requires { (slot < 8) × Within s.now f }
+    requires { (slot < 7) × Within s.now f }
     ensures { result.now ≡ bytes_of s.now f slot }
 {
     let at = f.at[slot];
@@ -250,7 +233,7 @@ pub fn content(s: &[u8], f: Fields, slot: usize) -> &[u8]
 
 // Byte `i` of a slot's content; 0 behind its end.
 pub fn byte_of(s: &[u8], f: Fields, slot: usize, i: usize) -> u8
-    requires { (slot < 8) × Within s.now f }
+    requires { (slot < 7) × Within s.now f }
     ensures { result ≡ get_or (bytes_of s.now f slot) i 0 }
 {
     let c = content(s, f, slot);
@@ -259,7 +242,7 @@ pub fn byte_of(s: &[u8], f: Fields, slot: usize, i: usize) -> u8
 
 // The first two bytes of a slot's content as a number, high byte first.
 pub fn number_of(s: &[u8], f: Fields, slot: usize) -> usize
-    requires { (slot < 8) × Within s.now f }
+    requires { (slot < 7) × Within s.now f }
     ensures { result ≡ word (bytes_of s.now f slot) }
 {
     256 * wide(byte_of(s, f, slot, 0)) + wide(byte_of(s, f, slot, 1))

@@ -34,7 +34,7 @@ fn refused_order(number: u8) -> Ordered
 
 // The tag of a slot of this file.
 fn tag_of(shape: bool, slot: usize) -> u8
-    requires { slot < 8 }
+    requires { slot < 7 }
     ensures { result ≡ tag_at shape slot }
 {
     let place = slot as u8;
@@ -66,7 +66,7 @@ fn write_sorted(file: &[u8], f: Fields, shape: bool, out: &mut [u8]) -> usize
 {
     let mut next = 0;
     let mut slot = 0;
-    while slot < 8 {
+    while slot < 7 {
         next = write_slot(file, f, shape, slot, out, next);
         slot += 1;
     }

@@ -14,10 +14,10 @@ use Rattle.shapes.specs.Judge.{judgement}
 use Rattle.plates.specs.Plates.{Plate}
 use Rattle.plates.specs.Shapes.{total, pair_sums, all_within}
 use Rattle.plates.specs.Files.{content_of, walk_all, plate_of, limits_of}
-use Rattle.plates.specs.Says.{word, angles_in, rights_in, sum_true, check_fault}
+use Rattle.plates.specs.Says.{word, angles_in, rights_in, check_fault}
 use Rattle.plates.specs.Read.{Readable}
 use Rattle.plates.proofs.HeldLists.{walked_content}
-use Rattle.plates.proofs.CheckSound.{judged_fault, total_fault, limit_fault, sum_fault, no_counts_fault}
+use Rattle.plates.proofs.CheckSound.{judged_fault, total_fault, limit_fault, no_counts_fault}
 use Rattle.plates.proofs.Calls.{read_stands}
 
 module _ {s : List ℕ} {f : Fields} {q : Held} {t : List ℕ} {g : Fields} (r : Readable s f q t g) {a x : List ℕ} (angles : a ≡ bytes_of t g 2) (rights : x ≡ bytes_of t g 3) where
@@ -57,9 +57,5 @@ module _ {s : List ℕ} {f : Fields} {q : Held} {t : List ℕ} {g : Fields} (r :
         pub file_limits : w ≡ false → 25 ≡ check_fault s t
         file_limits = limit_fault s t r.no_fault r.no_file_fault number_is z said_is sum_is y within_is
 
-        module _ (fits : w ≡ true) {v : Bool} (truth : v ≡ sum_true (walk_all false s).fields (walk_all true t).fields) where
-          pub file_sum : v ≡ false → 39 ≡ check_fault s t
-          file_sum = sum_fault s t r.no_fault r.no_file_fault number_is z said_is sum_is y within_is fits truth
-
-          pub file_sound : v ≡ true → 0 ≡ check_fault s t
-          file_sound = no_counts_fault s t r.no_fault r.no_file_fault number_is z said_is sum_is y within_is fits truth
+        pub file_sound : w ≡ true → 0 ≡ check_fault s t
+        file_sound = no_counts_fault s t r.no_fault r.no_file_fault number_is z said_is sum_is y within_is

@@ -1,15 +1,15 @@
 -- Sums and sameness of lists from an index on, and the check's promise from its parts. Assumes nothing.
-use mathlib.Core.Path.{◌≡◌, refl, sym, ap, ap₂, ◌∙◌}
+use mathlib.Core.Path.{◌≡◌, refl, sym, ap, ◌∙◌}
 use mathlib.Core.Bool.{true, false, ◌&&◌}
 use mathlib.Core.List.{List, [], ◌∷◌}
-use Prim.Native.Nat.{ℕ, ◌+◌, ◌≤◌, ◌<◌}
+use Prim.Native.Nat.{ℕ, suc, ◌+◌, ◌≤◌, ◌<◌}
 use native.Mathlib.Numerals.{add-one}
 use native.Mathlib.Omega.{arith}
 use lib.Dec.{eqb}
 use lib.ListN.{length, get_or, drop, drop_of_length-le}
 use lib.Seq.{drop-cons}
-use borrow.Author.Tests.{eqb-true, eq-eqb, ne_eqb}
-use Rattle.finite.proofs.Tests.{and_left, and_right, and_both, not_true_false}
+use borrow.Author.Tests.{eq-eqb, ne_eqb}
+use Rattle.finite.proofs.Tests.{and_right, not_true_false}
 use Rattle.plates.specs.Shapes.{total, same}
 
 -- the list from i on
@@ -22,18 +22,14 @@ total_front xs i h = ap total (front xs i h)
 pub total_end : (xs : List ℕ) (i : ℕ) → length xs ≤ i → total (drop i xs) ≡ 0
 total_end xs i h = ap total (drop_of_length-le xs h)
 
-pub same_itself : (xs : List ℕ) → same xs xs ≡ true
-same_itself [] = refl
-same_itself (x ∷ xs) = and_both (eqb x x) (same xs xs) (eq-eqb x x refl) (same_itself xs)
-
-pub same_is : (a b : List ℕ) → same a b ≡ true → a ≡ b
-same_is [] [] e = refl
-same_is [] (y ∷ ys) e = absurd (let z : ◌≡◌ {A = ℕ} 0 1 = cc in omega arith)
-same_is (x ∷ xs) [] e = absurd (let z : ◌≡◌ {A = ℕ} 0 1 = cc in omega arith)
-same_is (x ∷ xs) (y ∷ ys) e = ap₂ (λ (z : ℕ) (zs : List ℕ). z ∷ zs) (eqb-true x y (and_left (eqb x y) (same xs ys) e)) (same_is xs ys (and_right (eqb x y) (same xs ys) e))
+same_long : (a b : List ℕ) → same a b ≡ true → length a ≡ length b
+same_long [] [] e = refl
+same_long [] (y ∷ ys) e = absurd (let z : ◌≡◌ {A = ℕ} 0 1 = cc in omega arith)
+same_long (x ∷ xs) [] e = absurd (let z : ◌≡◌ {A = ℕ} 0 1 = cc in omega arith)
+same_long (x ∷ xs) (y ∷ ys) e = ap suc (same_long xs ys (and_right (eqb x y) (same xs ys) e))
 
 pub unlike_long : (a b : List ℕ) → (length a ≡ length b → ⊥) → false ≡ same a b
-unlike_long a b h = sym (not_true_false (same a b) (λ e. h (ap length (same_is a b e))))
+unlike_long a b h = sym (not_true_false (same a b) (λ e. h (same_long a b e)))
 
 module _ (a b : List ℕ) (i : ℕ) (long : length a ≡ length b) (h : i < length a) where
   same_front : same (drop i a) (drop i b) ≡ (eqb (get_or a i 0) (get_or b i 0) && same (drop (i + 1) a) (drop (i + 1) b))

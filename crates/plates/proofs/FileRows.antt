@@ -11,13 +11,13 @@ use Rattle.fields.specs.Writing.{Written}
 use Rattle.fields.specs.declared.Fields.{Fields}
 use Rattle.fields.proofs.Puts.{put_front, written_then}
 use Rattle.plates.specs.Plates.{darts}
-use Rattle.plates.specs.Files.{Field, content_of, walk_all, plate_of, two, field, count_bytes, sum_bytes, file_bytes}
+use Rattle.plates.specs.Files.{Field, content_of, walk_all, plate_of, two, field, file_bytes}
 use Rattle.plates.specs.Says.{file_long}
 use Rattle.plates.specs.Read.{Walked}
 use Rattle.plates.specs.Encodes.{ToWrite, FileWritten}
 use Rattle.plates.proofs.Contents.{ListFields, list_fields}
 use Rattle.plates.proofs.HeldLists.{walked_content}
-use Rattle.plates.proofs.ShapeFile.{sum_long, bytes_long}
+use Rattle.plates.proofs.ShapeFile.{bytes_long}
 
 module _ {s : List ℕ} {f : Fields} (w : Walked s f) where
   abbrev fs : List Field
@@ -39,9 +39,9 @@ module _ {s : List ℕ} {f : Fields} (w : Walked s f) where
   pub darts_most : darts (plate_of s) ≤ 256
   darts_most = laid.ends_most
 
--- there is room for the four fields and the sum
-pub room_for : {s : List ℕ} {f : Fields} {a r : List ℕ} {total-n room : ℕ} → ToWrite s f a r total-n room → 16 + (length a + length r) + length (sum_bytes (walk_all false s).fields r) ≤ room
-room_for {s} {f} {a} {r} h = omega (arith, h.enough, h.given.angles_many, h.given.rights_many, (laid h.given.walked).ends_even, sum_long (walk_all false s).fields r)
+-- there is room for the four fields
+pub room_for : {s : List ℕ} {f : Fields} {a r : List ℕ} {total-n room : ℕ} → ToWrite s f a r total-n room → 16 + (length a + length r) ≤ room
+room_for h = omega (arith, h.enough, h.given.angles_many, h.given.rights_many, (laid h.given.walked).ends_even)
 
 -- the whole file
 module _ {s : List ℕ} {f : Fields} {a r : List ℕ} {total-n room : ℕ} (h : ToWrite s f a r total-n room) (c : List ℕ) (rev : c ≡ bytes_of s f 0) (b : List ℕ) (sum : b ≡ two total-n) where
@@ -54,29 +54,26 @@ module _ {s : List ℕ} {f : Fields} {a r : List ℕ} {total-n room : ℕ} (h : 
   abbrev rows : List ℕ → List ℕ → List ℕ
   rows c b = field 17 c ++ (field 18 b ++ (field 19 a ++ field 20 r))
 
-  rows_are : rows c b ≡ count_bytes gs a r
+  rows_are : rows c b ≡ file_bytes gs a r
   rows_are = ap (λ (l : List ℕ). rows l b) (revision_is h.given.walked c rev) ∙ ap (rows (content_of 1 gs)) (sum ∙ ap two h.given.sum)
 
-  pub file_written : {out o1 o2 o3 o4 o5 : List ℕ} {n1 n2 n3 n4 n5 : ℕ} → length out ≡ room
+  pub file_written : {out o1 o2 o3 o4 : List ℕ} {n1 n2 n3 n4 : ℕ} → length out ≡ room
       → Written 0 (field 17 c) out o1 n1 → length o1 ≡ length out
       → Written n1 (field 18 b) o1 o2 n2 → length o2 ≡ length o1
       → Written n2 (field 19 a) o2 o3 n3 → length o3 ≡ length o2
-      → Written n3 (field 20 r) o3 o4 n4 → length o4 ≡ length o3
-      → Written n4 (sum_bytes gs r) o4 o5 n5 → FileWritten s a r out o5 n5
-  file_written {out} {o1} {o2} {o3} {o4} {o5} {n1} {n2} {n3} {n4} {n5} l w1 l1 w2 l2 w3 l3 w4 l4 w5 =
+      → Written n3 (field 20 r) o3 o4 n4 → FileWritten s a r out o4 n4
+  file_written {out} {o1} {o2} {o3} {o4} {n1} {n2} {n3} {n4} l w1 l1 w2 l2 w3 l3 w4 =
       let two_long : length b ≡ 2 = ap length sum in
       let c-long : length c ≡ 2 = revision_two h.given.walked c rev in
       let e1 : n1 ≡ 5 = omega (arith, w1.behind) in
       let e2 : n2 ≡ 10 = omega (arith, w2.behind) in
       let e3 : n3 ≡ 13 + length a = omega (arith, w3.behind) in
-      let room-is : 16 + (length a + length r) + length (sum_bytes gs r) ≤ length out = omega (arith, room_for h) in
-      let four-written : Written 0 (rows c b) out o4 n4 =
+      let room-is : 16 + (length a + length r) ≤ length out = omega (arith, room_for h) in
+      let all : Written 0 (rows c b) out o4 n4 =
       written_then (omega arith) w1
       (written_then (omega arith) w2
       (written_then (omega arith) w3 w4)) in
-      let e4 : n4 ≡ 16 + (length a + length r) = omega (arith, w4.behind) in
-      let counts : Written 0 (count_bytes gs a r) out o4 n4 = subst (λ (x : List ℕ). Written 0 x out o4 n4) rows_are four-written in
-      let done : Written 0 (file_bytes gs a r) out o5 n5 = written_then (omega arith) counts w5 in
+      let done : Written 0 (file_bytes gs a r) out o4 n4 = subst (λ (x : List ℕ). Written 0 x out o4 n4) rows_are all in
       record {
         bytes = done.bytes ∙ put_front (file_bytes gs a r) out;
         long = omega (arith, done.behind, long_is);

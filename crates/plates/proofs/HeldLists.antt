@@ -1,6 +1,6 @@
 -- The slots of a list that passed the walk hold its plate, and what is read is the list's plate or its refusal. Assumes nothing.
 use mathlib.Core.Path.{◌≡◌, sym, ap, ap₂, subst, ◌∙◌}
-use mathlib.Core.Bool.{Bool, true, false, ◌&&◌, ◌||◌, not}
+use mathlib.Core.Bool.{Bool, true, false, ◌||◌, not}
 use mathlib.Core.List.{List, []}
 use Prim.Native.Nat.{ℕ, ◌/◌, ◌%◌, ◌≤◌, ◌<◌}
 use native.Mathlib.Omega.{arith}
@@ -15,8 +15,7 @@ use Rattle.embedding.specs.Read.{Reads, Stands, blank}
 use Rattle.embedding.specs.declared.Reading.{Reading}
 use Rattle.plates.specs.declared.reading.ListRead.{ListRead}
 use Rattle.plates.specs.Plates.{plate, pick, pick_t, first_of, when, plate_fault}
-use Rattle.plates.specs.Shapes.{prices_ok}
-use Rattle.plates.specs.Files.{Field, has_tag, content_of, walk_all, list_fault, limits_fit, prices_fit, rates_fault, plate_of}
+use Rattle.plates.specs.Files.{Field, has_tag, content_of, walk_all, list_fault, limits_fit, limits_fault, plate_of}
 use Rattle.plates.specs.Read.{WalkedFile, Walked, ListHeld, ListRefused, ReadsList}
 use Rattle.plates.proofs.Contents.{ListFields, list_fields}
 use Rattle.plates.proofs.Lists.{list_accepted}
@@ -28,10 +27,10 @@ module _ {k : Bool} {s : List ℕ} {f : Fields} (w : WalkedFile k s f) where
   all_kept : kept (walk_all k s) ≡ (walk_all k s).fields
   all_kept = ap (λ (b : Bool). pick b (walk_all k s).fields []) (eq-eqb (walk_all k s).number 0 w.passed)
 
-  pub walked_content : (i : ℕ) → i < 8 → bytes_of s f i ≡ content_of (tag_at k i) (walk_all k s).fields
+  pub walked_content : (i : ℕ) → i < 7 → bytes_of s f i ≡ content_of (tag_at k i) (walk_all k s).fields
   walked_content i l = (w.holds.slot i l).content ∙ ap (content_of (tag_at k i)) all_kept
 
-  pub walked_there : (i : ℕ) → i < 8 → get_or f.seen i false ≡ has_tag (tag_at k i) (walk_all k s).fields
+  pub walked_there : (i : ℕ) → i < 7 → get_or f.seen i false ≡ has_tag (tag_at k i) (walk_all k s).fields
   walked_there i l = (w.holds.slot i l).there ∙ ap (has_tag (tag_at k i)) all_kept
 
 module _ {s : List ℕ} {f : Fields} (w : Walked s f) where
@@ -69,32 +68,6 @@ module _ {s : List ℕ} {f : Fields} (w : Walked s f) where
   pub limits_absent : get_or f.seen 6 false ≡ false → true ≡ limits_fit (walk_all false s).fields
   limits_absent h = ap fit_by (sym (sym (walked_there w 6 (lit< tt)) ∙ h))
 
--- whether the prices fit, from slots 2 and 7
-module _ {s : List ℕ} {f : Fields} (w : Walked s f) where
-  abbrev gs : List Field
-  gs = (walk_all false s).fields
-
-  abbrev priced_by : Bool → Bool → Bool → Bool
-  priced_by there many ok = not there || (many && ok)
-
-  priced_is : (b : Bool) → get_or f.seen 7 false ≡ b → has_tag 8 gs ≡ b
-  priced_is b h = sym (walked_there w 7 (lit< tt)) ∙ h
-
-  pub prices_absent : get_or f.seen 7 false ≡ false → true ≡ prices_fit (walk_all false s).fields
-  prices_absent h = sym (ap (λ (b : Bool). priced_by b (eqb (length (content_of 8 gs)) (length (content_of 3 gs) / 2)) (prices_ok (content_of 8 gs))) (priced_is false h))
-
-  module _ (e l : List ℕ) (p : e ≡ bytes_of s f 2) (q : l ≡ bytes_of s f 7) (h : get_or f.seen 7 false ≡ true) where
-    many_is : eqb (length l) (length e / 2) ≡ eqb (length (content_of 8 gs)) (length (content_of 3 gs) / 2)
-    many_is = ap₂ (λ (x y : List ℕ). eqb (length x) (length y / 2)) (q ∙ walked_content w 7 (lit< tt)) (p ∙ walked_content w 2 (lit< tt))
-
-    pub prices_fewer : (length l ≡ length e / 2 → ⊥) → false ≡ prices_fit (walk_all false s).fields
-    prices_fewer n = sym (ap₂ (λ (b c : Bool). priced_by b c (prices_ok (content_of 8 gs))) (priced_is true h) (sym many_is ∙ ne_eqb (length l) (length e / 2) n))
-
-    pub prices_there : length l ≡ length e / 2 → prices_ok l ≡ prices_fit (walk_all false s).fields
-    prices_there n =
-        ap prices_ok (q ∙ walked_content w 7 (lit< tt))
-        ∙ sym (ap₂ (λ (b c : Bool). priced_by b c (prices_ok (content_of 8 gs))) (priced_is true h) (sym many_is ∙ eq-eqb (length l) (length e / 2) n))
-
 module _ {s : List ℕ} {r : ListRead} where
   refused_reads : (e : ℕ) → list_fault s ≡ e → (e ≡ 0 → ⊥) → (r.number ≡ e) × ListRefused e r → ReadsList s r
   refused_reads e q n h =
@@ -112,26 +85,20 @@ module _ {s : List ℕ} {r : ListRead} where
   pub plate_refused : {q : Reading} → (walk_all false s).number ≡ 0 → Reads (plate_of s) q → (q.number ≡ 0 → ⊥) → (r.number ≡ q.number) × ListRefused q.number r → ReadsList s r
   plate_refused {q} w h n =
       refused_reads q.number
-      (ap (λ (k : ℕ). first_of k (first_of (plate_fault (plate_of s)) (rates_fault (walk_all false s).fields))) w ∙ first_some (plate_fault (plate_of s)) _ (λ z. n (h.number ∙ z)) ∙ sym h.number) n
-
-  late_refused : {q : Reading} (e : ℕ) → (walk_all false s).number ≡ 0 → Reads (plate_of s) q → q.number ≡ 0 → rates_fault (walk_all false s).fields ≡ e → (e ≡ 0 → ⊥) → (r.number ≡ e) × ListRefused e r → ReadsList s r
-  late_refused e w h z l =
-      refused_reads e
-      (ap (λ (k : ℕ). first_of k (first_of (plate_fault (plate_of s)) (rates_fault (walk_all false s).fields))) w
-      ∙ ap (λ (k : ℕ). first_of k (rates_fault (walk_all false s).fields)) (sym h.number ∙ z) ∙ l)
+      (ap (λ (k : ℕ). first_of k (first_of (plate_fault (plate_of s)) (limits_fault (walk_all false s).fields))) w ∙ first_some (plate_fault (plate_of s)) _ (λ z. n (h.number ∙ z)) ∙ sym h.number) n
 
   pub limits_refused : {q : Reading} → (walk_all false s).number ≡ 0 → Reads (plate_of s) q → q.number ≡ 0 → limits_fit (walk_all false s).fields ≡ false → (r.number ≡ 23) × ListRefused 23 r → ReadsList s r
-  limits_refused w h z l = late_refused 23 w h z (ap (λ (b : Bool). first_of (when (not b) 23) (when (not (prices_fit (walk_all false s).fields)) 38)) l) (λ e. omega (arith, e))
+  limits_refused {q} w h z l =
+      refused_reads 23
+      (ap (λ (k : ℕ). first_of k (first_of (plate_fault (plate_of s)) (limits_fault (walk_all false s).fields))) w
+      ∙ ap (λ (k : ℕ). first_of k (limits_fault (walk_all false s).fields)) (sym h.number ∙ z) ∙ ap (λ (b : Bool). when (not b) 23) l) (λ e. omega (arith, e))
 
-  pub prices_refused : {q : Reading} → (walk_all false s).number ≡ 0 → Reads (plate_of s) q → q.number ≡ 0 → limits_fit (walk_all false s).fields ≡ true → prices_fit (walk_all false s).fields ≡ false → (r.number ≡ 38) × ListRefused 38 r → ReadsList s r
-  prices_refused w h z l p = late_refused 38 w h z (ap₂ (λ (b c : Bool). first_of (when (not b) 23) (when (not c) 38)) l p) (λ e. omega (arith, e))
-
-pub list_read : {s : List ℕ} {f : Fields} {q : Reading} → Walked s f → Reads (plate_of s) q → q.number ≡ 0 → limits_fit (walk_all false s).fields ≡ true → prices_fit (walk_all false s).fields ≡ true → ReadsList s (record { number = 0; fields = f; plate = q.plate })
-list_read {s} {f} {q} w h z fit fair =
+pub list_read : {s : List ℕ} {f : Fields} {q : Reading} → Walked s f → Reads (plate_of s) q → q.number ≡ 0 → limits_fit (walk_all false s).fields ≡ true → ReadsList s (record { number = 0; fields = f; plate = q.plate })
+list_read {s} {f} {q} w h z fit =
     let good : plate_fault (plate_of s) ≡ 0 = sym h.number ∙ z in
     let none : list_fault s ≡ 0 =
-    ap (λ (k : ℕ). first_of k (first_of (plate_fault (plate_of s)) (rates_fault (walk_all false s).fields))) w.passed
-    ∙ ap (λ (k : ℕ). first_of k (rates_fault (walk_all false s).fields)) good ∙ ap₂ (λ (b c : Bool). first_of (when (not b) 23) (when (not c) 38)) fit fair in
+    ap (λ (k : ℕ). first_of k (first_of (plate_fault (plate_of s)) (limits_fault (walk_all false s).fields))) w.passed
+    ∙ ap (λ (k : ℕ). first_of k (limits_fault (walk_all false s).fields)) good ∙ ap (λ (b : Bool). when (not b) 23) fit in
     let r : ListRead = record { number = 0; fields = f; plate = q.plate } in
     record {
       number = sym none;

@@ -12,13 +12,13 @@ use Rattle.fields.specs.declared.Fields.{Fields}
 use Rattle.plates.specs.declared.Shaped.{Shaped}
 use Rattle.plates.specs.Plates.{pick_t, first_of, when}
 use Rattle.plates.specs.Shapes.{total, shape_of}
-use Rattle.plates.specs.Files.{has_tag, walk_all, list_fault, plate_of, rates_of, file_bytes, shape_bytes}
+use Rattle.plates.specs.Files.{walk_all, list_fault, plate_of, limits_of, file_bytes, shape_bytes}
 use Rattle.plates.specs.Claims.{NoneWithin}
 use Rattle.plates.specs.Says.{over, file_long, shape_fault, NoneKeeps, ShapeWith, ShapeSays}
 use Rattle.plates.specs.Encodes.{FileGiven, ToWrite, FileWritten, BestGiven, FileSays, refused_shape}
-use Rattle.plates.proofs.Lists.{list_accepted, list_fair}
+use Rattle.plates.proofs.Lists.{list_accepted}
 use Rattle.plates.proofs.ReadsBack.{angles_many, rights_many, shape-bytes}
-use Rattle.shapes.proofs.BestFits.{rated_total}
+use Rattle.shapes.proofs.BestFits.{within_total}
 use Rattle.plates.proofs.FileRows.{darts_most}
 
 refused_with : (e : ℕ) (s o : List ℕ) → (e ≡ 0 → ⊥) → ShapeWith e s o o (refused_shape e)
@@ -49,12 +49,8 @@ module _ {s : List ℕ} {f : Fields} {a r : List ℕ} {n : ℕ} (g : FileGiven s
   pub to_write : (room : ℕ) → file_long s ≤ room → ToWrite s f a r n room
   to_write room l = record { given = g; enough = l }
 
-  pub file_short : file_long s ≤ 535
-  file_short = omega (arith, darts_most g.walked, seven (has_tag 8 (walk_all false s).fields))
-    where
-      seven : (b : Bool) → when b 7 ≤ 7
-      seven true = omega arith
-      seven false = omega arith
+  pub file_short : file_long s ≤ 528
+  file_short = omega (arith, darts_most g.walked)
 
   pub written_says : (o o' : List ℕ) (long m : ℕ) → file_long s ≤ length o → long ≡ file_long s → FileWritten s a r o o' m → FileSays s a r o o' (record { number = 0; long = long; bends = n })
   written_says o o' long m l e w =
@@ -68,7 +64,7 @@ module _ {s : List ℕ} {f : Fields} {a r : List ℕ} {n : ℕ} (g : BestGiven s
     angles_many = angles_many s a r g.no_fault g.best.meets_all g.counts;
     rights_many = rights_many s a r g.no_fault g.best.meets_all g.counts;
     sum = g.sum;
-    few = omega (arith, g.sum, ap total g.counts, rated_total (plate_of s) (list_accepted s g.no_fault) (rates_of s) (list_fair s g.no_fault) (shape_of (plate_of s) a r) g.best);
+    few = omega (arith, g.sum, ap total g.counts, within_total (plate_of s) (list_accepted s g.no_fault) (limits_of s) (shape_of (plate_of s) a r) g.best);
   }
 
   pub best_says : (o o' : List ℕ) (v : Shaped) → FileSays s a r o o' v → ShapeSays s o o' v

@@ -1,10 +1,10 @@
 -- A shape file written into lent memory, from a list that passed the walk and given counts.
-use Rattle.std.specs.Prelude.{◌≡◌, false, List, ℕ, ◌+◌, ◌≤◌, ◌<◌, ltb, length}
+use Rattle.std.specs.Prelude.{◌≡◌, false, List, ℕ, ◌≤◌, ◌<◌, ltb, length}
 use Rattle.fields.specs.declared.Fields.{Fields}
 use Rattle.plates.specs.declared.Shaped.{Shaped}
 use Rattle.plates.specs.Plates.{pick_t, darts}
 use Rattle.plates.specs.Shapes.{total, rights_of, shape_of}
-use Rattle.plates.specs.Files.{walk_all, list_fault, plate_of, sum_bytes, file_bytes}
+use Rattle.plates.specs.Files.{walk_all, list_fault, plate_of, file_bytes}
 use Rattle.plates.specs.Claims.{BestOf}
 use Rattle.plates.specs.Says.{over, file_long}
 use Rattle.plates.specs.Read.{Walked}
@@ -16,12 +16,6 @@ pub record FileGiven (s : List ℕ) (f : Fields) (a r : List ℕ) (n : ℕ) : Ty
   pub rights_many : length r ≡ darts (plate_of s)
   pub sum : n ≡ total r
   pub few : n < 65536
-
--- room for the priced sum of right bends, if the list has prices, from a place on
-pub record SumRoom (s : List ℕ) (f : Fields) (r : List ℕ) (at room : ℕ) : Type 0 where
-  pub walked : Walked s f
-  pub rights_many : length r ≡ darts (plate_of s)
-  pub enough : at + length (sum_bytes (walk_all false s).fields r) ≤ room
 
 -- and room for their file
 pub record ToWrite (s : List ℕ) (f : Fields) (a r : List ℕ) (n room : ℕ) : Type 0 where

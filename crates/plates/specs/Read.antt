@@ -52,12 +52,6 @@ pub record ReadsShape (s t : List ℕ) (g : Fields) : Type 0 where
   pub number : g.number ≡ shape_file_fault s t
   pub held : pick_t (eqb (shape_file_fault s t) 0) (ShapeHeld s t g) (g ≡ refused_by (shape_file_fault s t))
 
--- a list and a shape file that passed their walks, with right bends for each dart
-pub record SumRead (s : List ℕ) (f : Fields) (t : List ℕ) (g : Fields) : Type 0 where
-  pub list : Walked s f
-  pub file : WalkedFile true t g
-  pub rights_many : length (rights_in t) ≡ darts (plate_of s)
-
 -- an accepted list with its plate, and a shape file with an angle and right bends for each of its darts
 pub record Readable (s : List ℕ) (f : Fields) (q : Held) (t : List ℕ) (g : Fields) : Type 0 where
   pub no_fault : list_fault s ≡ 0

@@ -1,17 +1,15 @@
 //! The verdict on a shape file, from what is read, judged and shaped.
-ghost use Rattle.std.specs.Prelude.{◌≡◌, true, false, ◌&&◌, List, ℕ, ◌≤◌, length};
+ghost use Rattle.std.specs.Prelude.{◌≡◌, true, ◌&&◌, List, ℕ, ◌≤◌, length};
 ghost use Rattle.plates.specs.Shapes.{total, same};
-ghost use Rattle.plates.specs.Files.{walk_all};
-ghost use Rattle.plates.specs.Says.{sum_true, check_fault, CheckSays};
-ghost use Rattle.plates.specs.Read.{WalkedFile, SumRead, Readable};
+ghost use Rattle.plates.specs.Says.{check_fault, CheckSays};
+ghost use Rattle.plates.specs.Read.{WalkedFile, Readable};
 ghost use Rattle.plates.specs.Checks.{refused_verdict, Compared};
 
 use crate::Verdict;
 use embedding::Plate;
-use fields::writing::four_bytes;
 use fields::{Fields, content, number_of};
 use shapes::judge::judge;
-use shapes::rates::{limits_ok, price_of};
+use shapes::rates::limits_ok;
 
 // The sum of the right bends.
 pub fn total_of(rights: &[u8]) -> u32
@@ -65,24 +63,7 @@ pub fn refused_verdict(number: u8) -> Verdict
     }
 }
 
-// Whether the shape file has the priced sum of its own bends exactly where the list has prices.
-fn is_sum_true(list: &[u8], f: Fields, shape: &[u8], g: Fields) -> bool
-    requires { SumRead list.now f shape.now g }
-    ensures { result ≡ sum_true (walk_all false list.now).fields (walk_all true shape.now).fields }
-{
-    let is_priced = f.seen[7];
-    let is_there = g.seen[5];
-    if !is_priced {
-        return !is_there;
-    }
-    let prices = content(list, f, 7);
-    let rights = content(shape, g, 3);
-    let sum = four_bytes(price_of(prices, rights));
-    let said = content(shape, g, 5);
-    is_same(said, &sum)
-}
-
-// The check's number of a shape file that has an angle and right bends for each dart of the plate: 19 to 22, 25, 39, or 0.
+// The check's number of a shape file that has an angle and right bends for each dart of the plate: 19 to 22, 25, or 0.
 pub fn counts_fault(list: &[u8], f: Fields, plate: Plate, shape: &[u8], g: Fields) -> u8
     requires { Readable list.now f plate shape.now g }
     ensures { result ≡ check_fault list.now shape.now }
@@ -102,13 +83,10 @@ pub fn counts_fault(list: &[u8], f: Fields, plate: Plate, shape: &[u8], g: Field
     if !limits_ok(limits, rights) {
         return 25;
     }
-    if !is_sum_true(list, f, shape, g) {
-        return 39;
-    }
     0
 }
 
-// The verdict on a sound shape file, from the best shape's angles, right bends and priced sum.
+// The verdict on a sound shape file, from the best shape's angles, right bends and total.
 pub fn sound_verdict(shape: &[u8], g: Fields, angles: &[u8], rights: &[u8], fewest: u32) -> Verdict
     requires { WalkedFile true shape.now g }
     ensures { (s : List ℕ) → Compared s shape.now angles.now rights.now fewest → CheckSays s shape.now result }

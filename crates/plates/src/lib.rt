@@ -1,10 +1,11 @@
-//! From plate list to the shape with fewest bends, or the cheapest: shaping, checking, listing.
+//! From plate list to the shape with fewest bends: shaping, checking, listing.
+ghost use Rattle.std.specs.Prelude.{[]};
 ghost use Rattle.embedding.specs.Plates.{Plate as PlateOf};
 ghost use Rattle.embedding.specs.Read.{Stands};
 ghost use Rattle.shapes.specs.Claims.{Accepted, Standing};
-ghost use Rattle.shapes.specs.Rates.{Fair};
+ghost use Rattle.shapes.specs.Rates.{rates};
 ghost use Rattle.shapes.specs.BestOf.{Answers};
-ghost use Rattle.plates.specs.Files.{rates_of};
+ghost use Rattle.plates.specs.Files.{limits_of};
 ghost use Rattle.plates.specs.Says.{ShapeSays, CheckSays};
 ghost use Rattle.plates.specs.Read.{Walked, Readable};
 ghost use Rattle.plates.specs.Listing.{ListingSays};
@@ -16,7 +17,6 @@ use crate::reading::{read_list, read_shape};
 use embedding::Plate;
 use fields::{Fields, content};
 use shapes::best::{BestAnswer, best_by};
-use shapes::rates::price_of;
 
 pub mod checking;
 pub mod encoding;
@@ -47,14 +47,13 @@ pub struct Listed {
     pub long: usize,
 }
 
-// The best shape of an accepted list within its limits, by its prices, or that no shape keeps them.
+// The best shape of an accepted list within its limits, or that no shape keeps them.
 fn best_of(list: &[u8], f: Fields, plate: Plate) -> BestAnswer
-    requires { Walked list.now f × Standing plate × Fair (rates_of list.now) }
-    ensures { (p : PlateOf) → Stands plate p → Accepted p → Answers p (rates_of list.now) result }
+    requires { Walked list.now f × Standing plate }
+    ensures { (p : PlateOf) → Stands plate p → Accepted p → Answers p (rates (limits_of list.now) []) result }
 {
     let limits = content(list, f, 6);
-    let prices = content(list, f, 7);
-    best_by(plate, limits, prices)
+    best_by(plate, limits, b"")
 }
 
 // Writes the best shape of a plate list to the front of lent memory, or refuses with the list's number, 24 or 16 and changes nothing.
@@ -85,7 +84,7 @@ pub fn write_shape(list: &[u8], out: &mut [u8]) -> Shaped
     )
 }
 
-// The verdict on a shape file that has an angle and right bends for each dart of the plate: 19 to 22, 25, 39, or sound.
+// The verdict on a shape file that has an angle and right bends for each dart of the plate: 19 to 22, 25, or sound.
 fn check_counts(list: &[u8], f: Fields, plate: Plate, shape: &[u8], g: Fields) -> Verdict
     requires { Readable list.now f plate shape.now g }
     ensures { CheckSays list.now shape.now result }
@@ -99,9 +98,7 @@ fn check_counts(list: &[u8], f: Fields, plate: Plate, shape: &[u8], g: Fields) -
     let darts = plate.darts;
     let angles = ours.angles;
     let rights = ours.rights;
-    let prices = content(list, f, 7);
-    let least = price_of(prices, &rights[..darts]);
-    sound_verdict(shape, g, &angles[..darts], &rights[..darts], least)
+    sound_verdict(shape, g, &angles[..darts], &rights[..darts], ours.total)
 }
 
 // The verdict on a shape file against a plate list.

@@ -2,12 +2,11 @@
 ghost use Rattle.std.specs.Prelude.{◌≡◌, false};
 ghost use Rattle.fields.specs.Says.{refused_by};
 ghost use Rattle.embedding.specs.Read.{blank, Reads};
-ghost use Rattle.plates.specs.Files.{walk_all, limits_fit, prices_fit, plate_of};
+ghost use Rattle.plates.specs.Files.{walk_all, limits_fit, plate_of};
 ghost use Rattle.plates.specs.Read.{Walked, ListRefused, ReadsList, ReadsShape};
 
 use embedding::{Plate, Reading, read_plate};
 use fields::{Fields, byte_of, content, number_of, walk_list, walk_shape};
-use shapes::rates::prices_ok;
 
 // The number of the refusal, or 0 with the fields and the plate.
 #[derive(Drop)]
@@ -39,9 +38,9 @@ fn no_fields(number: u8) -> Fields
 {
     Fields {
         number,
-        at: [0; 8],
-        long: [0; 8],
-        seen: [false; 8],
+        at: [0; 7],
+        long: [0; 7],
+        seen: [false; 7],
     }
 }
 
@@ -84,23 +83,6 @@ fn limits_fit(list: &[u8], f: Fields) -> bool
     true
 }
 
-// Whether the prices of bends, where the list has them, are one for each strip, each 1 to 100.
-fn prices_fit(list: &[u8], f: Fields) -> bool
-    requires { Walked list.now f }
-    ensures { result ≡ prices_fit (walk_all false list.now).fields }
-{
-    let is_there = f.seen[7];
-    let ends = content(list, f, 2);
-    let prices = content(list, f, 7);
-    if !is_there {
-        return true;
-    }
-    if prices.len() != ends.len() / 2 {
-        return false;
-    }
-    prices_ok(prices)
-}
-
 // The fields and the plate of a list, or its refusal.
 pub fn read_list(list: &[u8]) -> ListRead
     ensures { ReadsList list.now result }
@@ -116,10 +98,6 @@ pub fn read_list(list: &[u8]) -> ListRead
     let is_fit = limits_fit(list, fields);
     if !is_fit {
         return refused_list(23);
-    }
-    let is_priced = prices_fit(list, fields);
-    if !is_priced {
-        return refused_list(38);
     }
     let plate = reading.plate;
     ListRead {

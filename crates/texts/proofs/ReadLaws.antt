@@ -161,8 +161,8 @@ module _ (p : Plate) (ls : List ℕ) (n : ℕ) (a₀ r₀ l₀ : List ℕ) {w : 
       by_limits : counted_fault p ls n a₀ r₀ l₀ ≡ when (not v) 25
       by_limits = after_twins ∙ ap (λ (k : ℕ). first_of k past) (sym j-is ∙ z) ∙ ap (λ (b : Bool). when (not b) 25) (sym v-is)
 
-      pub limits_fault : v ≡ false → 25 ≡ counted_fault p ls n a₀ r₀ l₀
-      limits_fault f = sym (by_limits ∙ ap (λ (b : Bool). when (not b) 25) f)
+      pub limits-fault : v ≡ false → 25 ≡ counted_fault p ls n a₀ r₀ l₀
+      limits-fault f = sym (by_limits ∙ ap (λ (b : Bool). when (not b) 25) f)
 
       pub no_counted_fault : v ≡ true → 0 ≡ counted_fault p ls n a₀ r₀ l₀
       no_counted_fault f = sym (by_limits ∙ ap (λ (b : Bool). when (not b) 25) f)

@@ -9,7 +9,7 @@ use Rattle.finite.proofs.Tests.{and_left, first_none}
 use Rattle.embedding.proofs.Rotation.{Ordered, twin_even}
 use Rattle.shapes.specs.Claims.{Accepted}
 use Rattle.shapes.proofs.Accepted.{ordered}
-use Rattle.shapes.proofs.BestFits.{within-one-way}
+use Rattle.shapes.proofs.BestFits.{within_one_way}
 use Rattle.shapes.proofs.Tamassia.{two_to_a_strip}
 use Rattle.shapes.proofs.Words.{words_rights, rights_at, rights_long}
 use Rattle.plates.specs.Plates.{Plate, first_of, darts, strips, twin}
@@ -182,7 +182,7 @@ module _ (s a r : List ℕ) (e : list_fault s ≡ 0) (bytes : all_bytes s ≡ tr
   ys = rights_of x₃.words
 
   never : (d : ℕ) → d < darts p₃ → min (get_or ys d 0) (get_or ys (twin d) 0) ≡ 0
-  never = within-one-way p₃ acc₃ (limits_of s) x₃ best
+  never = within_one_way p₃ acc₃ (limits_of s) x₃ best
 
   ours_one_way : both_ways r ≡ false
   ours_one_way = ways_none r (λ d q l.

@@ -12,27 +12,24 @@ returns : tie.Need-returns
 returns c = rule_is true _ _ (ap shape_rule (sym c.match.keys1))
 
 returns-2 : tie.Need-returns-2
-returns-2 c = rule_is true _ _ (ap shape_rule (sym c.match.keys2))
-
-returns-3 : tie.Need-returns-3
-returns-3 c =
+returns-2 c =
     let t = c.before.before.before.args.tag in
     rule_is true t _ (simp (le-leb 17 t (omega arith), le-leb t 18 (omega arith)))
 
-returns-4 : tie.Need-returns-4
-returns-4 c =
+returns-3 : tie.Need-returns-3
+returns-3 c =
     let t = c.before.before.before.before.args.tag in
     rule_is true t _ (simp (le-leb 17 t (omega arith), lt-leb t 18 (omega arith), le-leb 19 t (omega arith), le-leb t 20 (omega arith)))
 
+returns-4 : tie.Need-returns-4
+returns-4 c =
+    let t = c.before.before.args.tag in
+    rule_is true t _ (simp (lt-leb 17 t (omega arith), lt-leb 19 t (omega arith), ne_eqb t 21 (omega arith)))
+
 returns-5 : tie.Need-returns-5
 returns-5 c =
-    let t = c.before.before.args.tag in
-    rule_is true t _ (simp (lt-leb 17 t (omega arith), lt-leb 19 t (omega arith), ne_eqb t 21 (omega arith), ne_eqb t 22 (omega arith)))
-
-returns-6 : tie.Need-returns-6
-returns-6 c =
     let t = c.before.before.before.before.args.tag in
-    rule_is true t _ (simp (le-leb 17 t (omega arith), lt-leb t 18 (omega arith), le-leb 19 t (omega arith), lt-leb t 20 (omega arith), ne_eqb t 21 (omega arith), ne_eqb t 22 (omega arith)))
+    rule_is true t _ (simp (le-leb 17 t (omega arith), lt-leb t 18 (omega arith), le-leb 19 t (omega arith), lt-leb t 20 (omega arith), ne_eqb t 21 (omega arith)))
 
 pub shape-rule-spec : {M : Type 1} → statement M
-shape-rule-spec = tie.close (tie.spec returns returns-2 returns-3 returns-4 returns-5 returns-6)
+shape-rule-spec = tie.close (tie.spec returns returns-2 returns-3 returns-4 returns-5)

@@ -8,11 +8,10 @@ use native.Mathlib.Omega.{arith}
 use lib.ListN.{length, get_or}
 use borrow.Author.Rules.{rules}
 use borrow.Author.Tests.{ltb-true, ltb-false, not-true, not-false}
-use Rattle.finite.proofs.Tests.{and_right}
-use Rattle.fields.specs.Files.{tag_ok, is_known, tag_in, head_long}
-use Rattle.fields.specs.Rules.{is_tag, rule_in, slot_of, keeps}
+use Rattle.fields.specs.Files.{tag_ok, head_long}
+use Rattle.fields.specs.Rules.{is_tag, rule_of, slot_of, keeps}
 use Rattle.fields.specs.declared.Front.TheVariants.{Met}
-use Rattle.fields.proofs.Agree.{agrees_by, tag_from}
+use Rattle.fields.proofs.Agree.{agrees, tag_from}
 use Rattle.fields.proofs.OneField.{tagged, front_is, front_1, front_2, front_3, front_29, front_4, front_5, front_met}
 use Rattle.fields.proofs.step.Statement.{statement}
 use Rattle.fields.proofs.step.Tie as tie
@@ -20,7 +19,7 @@ use Rattle.fields.proofs.step.Tie as tie
 returns : tie.Need-returns
 returns c =
     let a = c.before.before.args in
-    front_is a.in_order a.shape a.t4 a.low a.s.now _ (front_1 a.in_order a.shape a.t4 a.low a.s.now (omega arith))
+    front_is a.shape a.t3 a.low a.s.now _ (front_1 a.shape a.t3 a.low a.s.now (omega arith))
 
 shared-slice-read-tag : tie.Need-shared-slice-read-tag
 shared-slice-read-tag c = search rules
@@ -34,25 +33,22 @@ enum_told c = search rules
 returns-2 : tie.Need-returns-2
 returns-2 c =
     let a = c.before.before.before.before.before.before.args in
-    front_is a.in_order a.shape a.t4 a.low a.s.now _
-    (front_2 a.in_order a.shape a.t4 a.low a.s.now (omega arith) (sym c.before.before.rule-of.ensures.rule ∙ c.enum_told.given.1))
+    front_is a.shape a.t3 a.low a.s.now _
+    (front_2 a.shape a.t3 a.low a.s.now (omega arith) (sym c.before.before.rule-of.ensures.rule ∙ c.enum_told.given.1))
 
 -- past the second refusal: the rule is that of a tag of this file
 module _ (c : tie.At-match-keys2) where
   abbrev kind : Bool
   kind = c.before.before.before.before.before.args.shape
 
-  abbrev order : Bool
-  order = c.before.before.before.before.before.args.in_order
-
   abbrev bytes : List ℕ
   bytes = c.before.before.before.before.before.args.s.now
 
-  tag-here : is_tag (rule_in order kind (get_or bytes 0 0)) ≡ true
+  tag-here : is_tag (rule_of kind (get_or bytes 0 0)) ≡ true
   tag-here = sym (ap is_tag c.before.rule-of.ensures.rule) ∙ tagged c.before.rule-of.result c.match.keys2
 
   tag-ok : tag_ok kind (get_or bytes 0 0) ≡ true
-  tag-ok = and_right (is_known order kind (get_or bytes 0 0)) (tag_ok kind (get_or bytes 0 0)) (sym (agrees_by order kind (get_or bytes 0 0)).tag ∙ tag-here)
+  tag-ok = sym (agrees kind (get_or bytes 0 0)).tag ∙ tag-here
 
 slot-of-requires : tie.Need-slot-of-requires
 slot-of-requires c κs = tag-ok c
@@ -89,14 +85,11 @@ module _ (c : tie.After-allows) where
   abbrev k : Bool
   k = kind told
 
-  abbrev o : Bool
-  o = order told
-
   abbrev s : List ℕ
   s = bytes told
 
   abbrev seen : List Bool
-  seen = told.before.before.before.before.before.args.t4
+  seen = told.before.before.before.before.before.args.t3
 
   abbrev low : ℕ
   low = told.before.before.before.before.before.args.low
@@ -116,13 +109,13 @@ module _ (c : tie.After-allows) where
   long-here : long ≡ head_long s
   long-here = cc
 
-  kept_here : c.allows.result ≡ keeps (rule_in o k (get_or s 0 0)) (head_long s)
+  kept_here : c.allows.result ≡ keeps (rule_of k (get_or s 0 0)) (head_long s)
   kept_here = c.allows.ensures ∙ ap₂ keeps told.before.rule-of.ensures.rule long-here
 
 returns-3 : tie.Need-returns-3
 returns-3 c =
     let p = c.before in
-    front_is (o p) (k p) (seen p) (low p) (s p) _ (front_3 (o p) (k p) (seen p) (low p) (s p) (three p) (tag-here (told p)) (sym (met-here p) ∙ c.if2.true))
+    front_is (k p) (seen p) (low p) (s p) _ (front_3 (k p) (seen p) (low p) (s p) (three p) (tag-here (told p)) (sym (met-here p) ∙ c.if2.true))
 
 -- past the third: the tag is new
 new-here : (c : tie.Else2) → get_or (seen c.before) (slot_of (k c.before) (get_or (s c.before) 0 0)) false ≡ false
@@ -131,8 +124,8 @@ new-here c = sym (met-here c.before) ∙ c.if2.false
 returns-4 : tie.Need-returns-4
 returns-4 c =
     let p = c.before.before in
-    front_is (o p) (k p) (seen p) (low p) (s p) _
-    (front_29 (o p) (k p) (seen p) (low p) (s p) (three p) (tag-here (told p)) (new-here c.before) (ltb-true _ _ c.if3.true))
+    front_is (k p) (seen p) (low p) (s p) _
+    (front_29 (k p) (seen p) (low p) (s p) (three p) (tag-here (told p)) (new-here c.before) (ltb-true _ _ c.if3.true))
 
 -- past 29: the tag is not below the one before
 above-here : (c : tie.Else3) → low c.before.before ≤ get_or (s c.before.before) 0 0
@@ -141,8 +134,8 @@ above-here c = ltb-false _ _ c.if3.false
 returns-5 : tie.Need-returns-5
 returns-5 c =
     let p = c.before.before.before in
-    front_is (o p) (k p) (seen p) (low p) (s p) _
-    (front_4 (o p) (k p) (seen p) (low p) (s p) (three p) (tag-here (told p)) (new-here c.before.before) (above-here c.before) (sym (kept_here p) ∙ not-true _ c.if4.true))
+    front_is (k p) (seen p) (low p) (s p) _
+    (front_4 (k p) (seen p) (low p) (s p) (three p) (tag-here (told p)) (new-here c.before.before) (above-here c.before) (sym (kept_here p) ∙ not-true _ c.if4.true))
 
 add-if5 : tie.Need-overflow-add-if5
 add-if5 c =
@@ -150,21 +143,21 @@ add-if5 c =
     omega (arith, known 1, known 2)
 
 -- past the fourth: the length is as laid out
-long-ok-here : (c : tie.Else4) → let p = c.before.before.before in keeps (rule_in (o p) (k p) (get_or (s p) 0 0)) (head_long (s p)) ≡ true
+long-ok-here : (c : tie.Else4) → let p = c.before.before.before in keeps (rule_of (k p) (get_or (s p) 0 0)) (head_long (s p)) ≡ true
 long-ok-here c = sym (kept_here c.before.before.before) ∙ not-false _ c.if4.false
 
 returns-6 : tie.Need-returns-6
 returns-6 c =
     let p = c.before.before.before.before in
-    front_is (o p) (k p) (seen p) (low p) (s p) _
-    (front_5 (o p) (k p) (seen p) (low p) (s p) (three p) (tag-here (told p)) (new-here c.before.before.before) (above-here c.before.before) (long-ok-here c.before) (omega (arith, long-here p)))
+    front_is (k p) (seen p) (low p) (s p) _
+    (front_5 (k p) (seen p) (low p) (s p) (three p) (tag-here (told p)) (new-here c.before.before.before) (above-here c.before.before) (long-ok-here c.before) (omega (arith, long-here p)))
 
 returns-7 : tie.Need-returns-7
 returns-7 c =
     let p = c.before.before.before.before in
-    front_is (o p) (k p) (seen p) (low p) (s p) _
+    front_is (k p) (seen p) (low p) (s p) _
     (ap₂ Met (slot-here p) (long-here p) ∙
-    front_met (o p) (k p) (seen p) (low p) (s p) (three p) (tag-here (told p)) (new-here c.before.before.before) (above-here c.before.before) (long-ok-here c.before) (omega (arith, long-here p)))
+    front_met (k p) (seen p) (low p) (s p) (three p) (tag-here (told p)) (new-here c.before.before.before) (above-here c.before.before) (long-ok-here c.before) (omega (arith, long-here p)))
 
 pub step_spec : {M : Type 1} → statement M
 step_spec =

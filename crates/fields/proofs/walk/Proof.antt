@@ -51,7 +51,7 @@ returns c =
     let w = c.before.before.before.before.before.before.before.before.loop in
     rw c.refused.ensures
     (going_fault a.in_order a.shape a.s.now w.at w.long w.seen w.low w.next w.invariant (omega (arith, c.before.before.before.before.before.before.before.loop-test.true)) c.before.before.front.given.0.0
-    (sym c.before.before.front.given.1 ∙ c.before.before.before.before.step.ensures.front ∙ ap (front_of a.in_order a.shape w.seen w.low) (rest_lent a.s.now w.next)))
+    (sym c.before.before.front.given.1 ∙ c.before.before.before.before.step.ensures.front ∙ ap (front_of a.shape w.seen w.low) (rest_lent a.s.now w.next)))
 
 enum-known-front-2 : tie.Need-enum-known-front-2 invariant-loop decreases-loop
 enum-known-front-2 c = search rules
@@ -62,12 +62,12 @@ met-here : (c : tie.After-known-told2 invariant-loop decreases-loop) →
     let w = c.before.before.before.before.before.before.before.loop in
     let i = c.before.front2.given.0.0 in
     let n = c.before.front2.given.0.1.0 in
-    (i < 8) × (w.next + 3 + n ≤ length a.s.now) × Going a.in_order a.shape a.s.now (set w.at i (w.next + 3)) (set w.long i n) (set w.seen i true) (pick a.in_order (get_or a.s.now w.next 0) 0) (w.next + 3 + n)
+    (i < 7) × (w.next + 3 + n ≤ length a.s.now) × Going a.in_order a.shape a.s.now (set w.at i (w.next + 3)) (set w.long i n) (set w.seen i true) (pick a.in_order (get_or a.s.now w.next 0) 0) (w.next + 3 + n)
 met-here c =
     let a = c.before.before.before.before.before.before.before.before.before.args in
     let w = c.before.before.before.before.before.before.before.loop in
     going_met a.in_order a.shape a.s.now w.at w.long w.seen w.low w.next w.invariant (omega (arith, c.before.before.before.before.before.before.loop-test.true)) c.before.front2.given.0.0 c.before.front2.given.0.1.0
-    (sym c.before.front2.given.1 ∙ c.before.before.before.step.ensures.front ∙ ap (front_of a.in_order a.shape w.seen w.low) (rest_lent a.s.now w.next))
+    (sym c.before.front2.given.1 ∙ c.before.before.before.step.ensures.front ∙ ap (front_of a.shape w.seen w.low) (rest_lent a.s.now w.next))
 
 add_at : tie.Need-overflow-add-at invariant-loop decreases-loop
 add_at c = omega (arith, (met-here c).1)

@@ -1,16 +1,11 @@
 -- `check_counts`: the file's refusal, or its counts compared with those of the best shape. Assumes nothing.
-use mathlib.Core.Path.{sym, ap, subst, ◌∙◌}
-use mathlib.Core.List.{List}
-use Prim.Native.Nat.{ℕ}
+use mathlib.Core.Path.{sym, subst, ◌∙◌}
 use native.Mathlib.Omega.{arith}
-use lib.Dec.{lit<}
-use lib.ListN.{take}
 use Rattle.plates.specs.declared.Verdict.{Verdict}
-use Rattle.plates.specs.Files.{plate_of, rates_of, sum_of}
+use Rattle.plates.specs.Files.{plate_of, limits_of}
 use Rattle.plates.specs.Says.{CheckSays}
-use Rattle.plates.proofs.HeldLists.{walked_within, walked_content}
 use Rattle.plates.proofs.CheckSound.{refused_check}
-use Rattle.plates.proofs.Calls.{read_stands, read_fair, darts_even, compared, angles_within, rights_within, angles_many, rights_many}
+use Rattle.plates.proofs.Calls.{read_stands, angles_within, rights_within, angles_many, rights_many, compared}
 use borrow.Author.Rules.{rules}
 use Rattle.plates.proofs.check_counts.Statement.{statement}
 use Rattle.plates.proofs.check_counts.Tie as tie
@@ -25,37 +20,25 @@ returns : tie.Need-returns
 returns c = let a = c.before.before.before.before.before.args in subst (λ (v : Verdict). CheckSays a.list.now a.shape.now v) (sym c.refused-verdict.ensures) (refused_check a.list.now a.shape.now c.before.before.counts-fault.result (sym c.before.before.counts-fault.ensures) c.before.if1.true)
 
 best-of-requires : tie.Need-best-of-requires
-best-of-requires c κs = (c.before.before.before.before.requires.walked, read_stands c.before.before.before.before.requires, read_fair c.before.before.before.before.requires)
-
-content-requires : tie.Need-content-requires
-content-requires c κs = (lit< tt, walked_within c.before.before.before.before.before.before.before.before.requires.walked)
-
-array-share-prefix-rights : tie.Need-array-share-prefix-rights
-array-share-prefix-rights c = rights_within (rates_of c.before.before.before.before.before.before.before.before.before.args.list.now) c.before.before.before.before.best_of.result (read_stands c.before.before.before.before.before.before.before.before.before.requires) c.before.before.before.before.best_of.ensures
-
-slice-aggregate-price-of : tie.Need-slice-aggregate-price-of
-slice-aggregate-price-of c = rights_many (rates_of c.before.before.before.before.before.before.before.before.before.before.args.list.now) c.before.before.before.before.before.best_of.result (read_stands c.before.before.before.before.before.before.before.before.before.before.requires) c.before.before.before.before.before.best_of.ensures
-
-price-of-requires : tie.Need-price-of-requires
-price-of-requires c κs = darts_even c.before.before.before.before.before.before.before.before.before.before.requires _ (sym (rights_many (rates_of c.before.before.before.before.before.before.before.before.before.before.args.list.now) c.before.before.before.before.before.best_of.result (read_stands c.before.before.before.before.before.before.before.before.before.before.requires) c.before.before.before.before.before.best_of.ensures))
+best-of-requires c κs = search rules
 
 array-share-prefix-angles : tie.Need-array-share-prefix-angles
-array-share-prefix-angles c = angles_within (rates_of c.before.before.before.before.before.before.before.before.before.before.before.args.list.now) c.before.before.before.before.before.before.best_of.result (read_stands c.before.before.before.before.before.before.before.before.before.before.before.requires) c.before.before.before.before.before.before.best_of.ensures
+array-share-prefix-angles c = angles_within (limits_of c.before.before.before.before.before.before.before.before.args.list.now) c.before.before.before.best_of.result (read_stands c.before.before.before.before.before.before.before.before.requires) c.before.before.before.best_of.ensures
 
 slice-aggregate-sound-verdict : tie.Need-slice-aggregate-sound-verdict
-slice-aggregate-sound-verdict c = angles_many (rates_of c.before.before.before.before.before.before.before.before.before.before.before.before.args.list.now) c.before.before.before.before.before.before.before.best_of.result (read_stands c.before.before.before.before.before.before.before.before.before.before.before.before.requires) c.before.before.before.before.before.before.before.best_of.ensures
+slice-aggregate-sound-verdict c = angles_many (limits_of c.before.before.before.before.before.before.before.before.before.args.list.now) c.before.before.before.before.best_of.result (read_stands c.before.before.before.before.before.before.before.before.before.requires) c.before.before.before.before.best_of.ensures
 
-array-share-prefix-rights-2 : tie.Need-array-share-prefix-rights-2
-array-share-prefix-rights-2 c = rights_within (rates_of c.before.before.before.before.before.before.before.before.before.before.before.before.args.list.now) c.before.before.before.before.before.before.before.best_of.result (read_stands c.before.before.before.before.before.before.before.before.before.before.before.before.requires) c.before.before.before.before.before.before.before.best_of.ensures
+array-share-prefix-rights : tie.Need-array-share-prefix-rights
+array-share-prefix-rights c = rights_within (limits_of c.before.before.before.before.before.before.before.before.before.args.list.now) c.before.before.before.before.best_of.result (read_stands c.before.before.before.before.before.before.before.before.before.requires) c.before.before.before.before.best_of.ensures
 
 slice-aggregate-sound-verdict-2 : tie.Need-slice-aggregate-sound-verdict-2
-slice-aggregate-sound-verdict-2 c = rights_many (rates_of c.before.before.before.before.before.before.before.before.before.before.before.before.before.args.list.now) c.before.before.before.before.before.before.before.before.best_of.result (read_stands c.before.before.before.before.before.before.before.before.before.before.before.before.before.requires) c.before.before.before.before.before.before.before.before.best_of.ensures
+slice-aggregate-sound-verdict-2 c = rights_many (limits_of c.before.before.before.before.before.before.before.before.before.before.args.list.now) c.before.before.before.before.before.best_of.result (read_stands c.before.before.before.before.before.before.before.before.before.before.requires) c.before.before.before.before.before.best_of.ensures
 
 sound-verdict-requires : tie.Need-sound-verdict-requires
 sound-verdict-requires c κs = search rules
 
 returns-2 : tie.Need-returns-2
-returns-2 c = let s = c.before.before.before.before.before.before.before.before.before.before.before.before.before.before.args.list.now in let r = c.before.before.before.before.before.before.before.before.before.before.before.before.before.before.requires in c.sound-verdict.ensures s (compared r c.before.before.before.before.before.before.before.before.before.best_of.result (c.before.before.before.price-of.ensures ∙ ap (λ (ps : List ℕ). sum_of ps (take c.before.before.before.before.before.before.before.before.before.before.before.before.before.before.args.plate.darts c.before.before.before.before.before.before.before.before.before.best_of.result.shape.rights)) (c.before.before.before.before.before.content.ensures ∙ walked_content r.walked 7 (lit< tt))) (sym c.before.before.before.before.before.before.before.before.before.before.before.counts-fault.ensures ∙ omega (arith, c.before.before.before.before.before.before.before.before.before.before.if1.false)) (c.before.before.before.before.before.before.before.before.before.best_of.ensures (plate_of s) r.plate r.accepted))
+returns-2 c = let s = c.before.before.before.before.before.before.before.before.before.before.before.args.list.now in let r = c.before.before.before.before.before.before.before.before.before.before.before.requires in c.sound-verdict.ensures s (compared r c.before.before.before.before.before.before.best_of.result (sym c.before.before.before.before.before.before.before.before.counts-fault.ensures ∙ omega (arith, c.before.before.before.before.before.before.before.if1.false)) (c.before.before.before.before.before.before.best_of.ensures (plate_of s) r.plate r.accepted))
 
 pub check-counts-spec : {M : Type 1} → statement M
 check-counts-spec =
@@ -65,13 +48,9 @@ check-counts-spec =
     refused-verdict-requires
     returns
     best-of-requires
-    content-requires
-    array-share-prefix-rights
-    slice-aggregate-price-of
-    price-of-requires
     array-share-prefix-angles
     slice-aggregate-sound-verdict
-    array-share-prefix-rights-2
+    array-share-prefix-rights
     slice-aggregate-sound-verdict-2
     sound-verdict-requires
     returns-2)

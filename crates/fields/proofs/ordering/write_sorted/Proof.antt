@@ -14,10 +14,10 @@ use Rattle.fields.proofs.ordering.write_sorted.Statement.{statement}
 use Rattle.fields.proofs.ordering.write_sorted.Tie as tie
 
 abbrev invariant-loop : tie.invariant-loop
-invariant-loop file f shape out₀ next₀ slot₀ out next slot = (slot ≤ 8) × Written 0 (bytes_in (rising slot (first_tag shape) (old_walk shape file).fields)) out₀ out next × (length out ≡ length out₀)
+invariant-loop file f shape out₀ next₀ slot₀ out next slot = (slot ≤ 7) × Written 0 (bytes_in (rising slot (first_tag shape) (old_walk shape file).fields)) out₀ out next × (length out ≡ length out₀)
 
 abbrev decreases-loop : tie.decreases-loop
-decreases-loop file f shape out₀ next₀ slot₀ out next slot = 8 - slot
+decreases-loop file f shape out₀ next₀ slot₀ out next slot = 7 - slot
 
 loop-holds : tie.Need-loop-init invariant-loop decreases-loop
 loop-holds c = (omega arith, written_none 0 _, refl)
@@ -46,7 +46,7 @@ same_length c = c.before.loop.invariant.2
 returns : tie.Need-returns invariant-loop decreases-loop
 returns c =
     let w = c.before.loop in
-    let e : w.slot ≡ 8 = omega arith in
+    let e : w.slot ≡ 7 = omega arith in
     rw e at w.invariant.1
 
 pub write-sorted-spec : {M : Type 1} → statement M

@@ -1,12 +1,12 @@
--- `plates::checking::counts_fault`: judged, then 22, then 25, then 39. Assumes nothing.
+-- `plates::checking::counts_fault`: judged, then 22, then 25. Assumes nothing.
 use mathlib.Core.Path.{◌∙◌}
 use native.Mathlib.Omega.{arith}
 use lib.Dec.{lit<}
 use borrow.Author.Tests.{not-true, not-false}
 use Rattle.plates.proofs.HeldLists.{walked_within, walked_content}
-use Rattle.plates.proofs.Calls.{rights_even, sum_read}
+use Rattle.plates.proofs.Calls.{rights_even}
 use Rattle.plates.proofs.CheckSound.{rights_few}
-use Rattle.plates.proofs.CheckCounts.{counted, file_judged, file_total, file_limits, file_sum, file_sound}
+use Rattle.plates.proofs.CheckCounts.{counted, file_judged, file_total, file_limits, file_sound}
 use borrow.Author.Rules.{rules}
 use Rattle.plates.proofs.checking.counts_fault.Statement.{statement}
 use Rattle.plates.proofs.checking.counts_fault.Tie as tie
@@ -44,14 +44,8 @@ limits-ok-requires c κs = rights_even c.before.before.before.before.before.befo
 returns-3 : tie.Need-returns-3
 returns-3 c = file_limits c.before.before.before.before.before.before.before.before.before.before.before.before.requires c.before.before.before.before.before.before.before.before.before.content.ensures c.before.before.before.before.before.before.before.before.content2.ensures c.before.before.before.before.before.before.before.judge.ensures (omega (arith, c.before.before.before.before.before.before.if1.false)) c.before.before.before.before.before.number-of.ensures c.before.before.before.before.total_of.ensures (omega (arith, c.before.before.before.if2.false)) c.before.before.content3.ensures c.before.limits-ok.ensures (not-true c.before.limits-ok.result c.if3.true)
 
-is-sum-true-requires : tie.Need-is-sum-true-requires
-is-sum-true-requires c κs = sum_read c.before.before.before.before.before.before.before.before.before.before.before.before.requires
-
 returns-4 : tie.Need-returns-4
-returns-4 c = file_sum c.before.before.before.before.before.before.before.before.before.before.before.before.before.before.requires c.before.before.before.before.before.before.before.before.before.before.before.content.ensures c.before.before.before.before.before.before.before.before.before.before.content2.ensures c.before.before.before.before.before.before.before.before.before.judge.ensures (omega (arith, c.before.before.before.before.before.before.before.before.if1.false)) c.before.before.before.before.before.before.before.number-of.ensures c.before.before.before.before.before.before.total_of.ensures (omega (arith, c.before.before.before.before.before.if2.false)) c.before.before.before.before.content3.ensures c.before.before.before.limits-ok.ensures (not-false c.before.before.before.limits-ok.result c.before.before.if3.false) c.before.is-sum-true.ensures (not-true c.before.is-sum-true.result c.if4.true)
-
-returns-5 : tie.Need-returns-5
-returns-5 c = file_sound c.before.before.before.before.before.before.before.before.before.before.before.before.before.before.requires c.before.before.before.before.before.before.before.before.before.before.before.content.ensures c.before.before.before.before.before.before.before.before.before.before.content2.ensures c.before.before.before.before.before.before.before.before.before.judge.ensures (omega (arith, c.before.before.before.before.before.before.before.before.if1.false)) c.before.before.before.before.before.before.before.number-of.ensures c.before.before.before.before.before.before.total_of.ensures (omega (arith, c.before.before.before.before.before.if2.false)) c.before.before.before.before.content3.ensures c.before.before.before.limits-ok.ensures (not-false c.before.before.before.limits-ok.result c.before.before.if3.false) c.before.is-sum-true.ensures (not-false c.before.is-sum-true.result c.if4.false)
+returns-4 c = file_sound c.before.before.before.before.before.before.before.before.before.before.before.before.requires c.before.before.before.before.before.before.before.before.before.content.ensures c.before.before.before.before.before.before.before.before.content2.ensures c.before.before.before.before.before.before.before.judge.ensures (omega (arith, c.before.before.before.before.before.before.if1.false)) c.before.before.before.before.before.number-of.ensures c.before.before.before.before.total_of.ensures (omega (arith, c.before.before.before.if2.false)) c.before.before.content3.ensures c.before.limits-ok.ensures (not-false c.before.limits-ok.result c.if3.false)
 
 pub counts-fault-spec : {M : Type 1} → statement M
 counts-fault-spec =
@@ -68,6 +62,4 @@ counts-fault-spec =
     content-requires-3
     limits-ok-requires
     returns-3
-    is-sum-true-requires
-    returns-4
-    returns-5)
+    returns-4)

@@ -1,4 +1,4 @@
--- `plates::encoding::write_fields` writes four fields and the sum, each where the one before it ended. Assumes nothing.
+-- `plates::encoding::write_fields` writes four fields, each where the one before it ended. Assumes nothing.
 use mathlib.Core.Path.{refl, ap}
 use native.Mathlib.Omega.{arith}
 use lib.ListN.{length}
@@ -29,14 +29,11 @@ write-field-requires-3 c κs = let two = revision_two c.before.before.before.bef
 write-field-requires-4 : tie.Need-write-field-requires-4
 write-field-requires-4 c κs = let two = revision_two c.before.before.before.before.before.before.before.before.before.before.before.before.before.before.before.before.before.before.before.before.requires.given.walked _ c.before.before.before.before.before.before.before.before.before.before.before.before.before.before.before.content.ensures in let sum = ap length c.before.before.before.before.before.before.before.before.before.before.before.before.before.before.two_bytes.ensures in (omega (arith, room_for c.before.before.before.before.before.before.before.before.before.before.before.before.before.before.before.before.before.before.before.before.requires, c.before.before.before.before.before.before.before.before.before.before.before.before.write-field.ensures.behind, c.before.before.before.before.before.before.before.before.before.before.before.before.write-field.auto.0, c.before.before.before.before.before.before.before.write-field2.ensures.behind, c.before.before.before.before.before.before.before.write-field2.auto.0, c.before.before.before.write-field3.ensures.behind, c.before.before.before.write-field3.auto.0), omega (arith, c.before.before.before.before.before.before.before.before.before.before.before.before.before.before.before.before.before.before.before.before.requires.given.rights_many, darts_most c.before.before.before.before.before.before.before.before.before.before.before.before.before.before.before.before.before.before.before.before.requires.given.walked))
 
-write-sum-requires : tie.Need-write-sum-requires
-write-sum-requires c κs = let two = revision_two c.before.before.before.before.before.before.before.before.before.before.before.before.before.before.before.before.before.before.before.before.before.before.before.before.requires.given.walked _ c.before.before.before.before.before.before.before.before.before.before.before.before.before.before.before.before.before.before.before.content.ensures in let sum = ap length c.before.before.before.before.before.before.before.before.before.before.before.before.before.before.before.before.before.before.two_bytes.ensures in record { walked = c.before.before.before.before.before.before.before.before.before.before.before.before.before.before.before.before.before.before.before.before.before.before.before.before.requires.given.walked; rights_many = c.before.before.before.before.before.before.before.before.before.before.before.before.before.before.before.before.before.before.before.before.before.before.before.before.requires.given.rights_many; enough = omega (arith, room_for c.before.before.before.before.before.before.before.before.before.before.before.before.before.before.before.before.before.before.before.before.before.before.before.before.requires, c.before.before.before.before.before.before.before.before.before.before.before.before.before.before.before.before.write-field.ensures.behind, c.before.before.before.before.before.before.before.before.before.before.before.before.before.before.before.before.write-field.auto.0, c.before.before.before.before.before.before.before.before.before.before.before.write-field2.ensures.behind, c.before.before.before.before.before.before.before.before.before.before.before.write-field2.auto.0, c.before.before.before.before.before.before.before.write-field3.ensures.behind, c.before.before.before.before.before.before.before.write-field3.auto.0, c.before.before.before.write-field4.ensures.behind, c.before.before.before.write-field4.auto.0) }
-
 same_length : tie.Need-same-length
 same_length c = search rules
 
 returns : tie.Need-returns
-returns c = file_written c.before.before.before.before.before.before.before.before.before.before.before.before.before.before.before.before.before.before.before.before.before.before.before.before.before.before.before.requires _ c.before.before.before.before.before.before.before.before.before.before.before.before.before.before.before.before.before.before.before.before.before.before.content.ensures _ c.before.before.before.before.before.before.before.before.before.before.before.before.before.before.before.before.before.before.before.before.before.two_bytes.ensures refl c.before.before.before.before.before.before.before.before.before.before.before.before.before.before.before.before.before.before.before.write-field.ensures c.before.before.before.before.before.before.before.before.before.before.before.before.before.before.before.before.before.before.before.write-field.auto.0 c.before.before.before.before.before.before.before.before.before.before.before.before.before.before.write-field2.ensures c.before.before.before.before.before.before.before.before.before.before.before.before.before.before.write-field2.auto.0 c.before.before.before.before.before.before.before.before.before.before.write-field3.ensures c.before.before.before.before.before.before.before.before.before.before.write-field3.auto.0 c.before.before.before.before.before.before.write-field4.ensures c.before.before.before.before.before.before.write-field4.auto.0 c.before.before.write-sum.ensures
+returns c = file_written c.before.before.before.before.before.before.before.before.before.before.before.before.before.before.before.before.before.before.before.before.before.before.before.requires _ c.before.before.before.before.before.before.before.before.before.before.before.before.before.before.before.before.before.before.content.ensures _ c.before.before.before.before.before.before.before.before.before.before.before.before.before.before.before.before.before.two_bytes.ensures refl c.before.before.before.before.before.before.before.before.before.before.before.before.before.before.before.write-field.ensures c.before.before.before.before.before.before.before.before.before.before.before.before.before.before.before.write-field.auto.0 c.before.before.before.before.before.before.before.before.before.before.write-field2.ensures c.before.before.before.before.before.before.before.before.before.before.write-field2.auto.0 c.before.before.before.before.before.before.write-field3.ensures c.before.before.before.before.before.before.write-field3.auto.0 c.before.before.write-field4.ensures
 
 pub write-fields-spec : {M : Type 1} → statement M
 write-fields-spec =
@@ -49,6 +46,5 @@ write-fields-spec =
     write-field-requires-2
     write-field-requires-3
     write-field-requires-4
-    write-sum-requires
     same_length
     returns)

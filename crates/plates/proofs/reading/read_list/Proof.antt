@@ -1,7 +1,7 @@
--- `plates::reading::read_list` gives the walk's refusal, the plate's, that of the limits, that of the prices, or the plate. Assumes nothing.
+-- `plates::reading::read_list` gives the walk's refusal, the plate's, that of the limits, or the plate. Assumes nothing.
 use mathlib.Core.Path.{sym, ◌∙◌}
 use borrow.Author.Tests.{not-true, not-false}
-use Rattle.plates.proofs.HeldLists.{walk_refused, plate_refused, limits_refused, prices_refused, list_read}
+use Rattle.plates.proofs.HeldLists.{walk_refused, plate_refused, limits_refused, list_read}
 use borrow.Author.Rules.{rules}
 use Rattle.plates.proofs.reading.read_list.Statement.{statement}
 use Rattle.plates.proofs.reading.read_list.Tie as tie
@@ -33,17 +33,8 @@ refused-list-requires-3 c κs = search rules
 returns-3 : tie.Need-returns-3
 returns-3 c = limits_refused (sym c.before.before.before.before.before.before.before.before.walk-list.ensures.number ∙ c.before.before.before.before.before.before.if1.false) c.before.before.before.before.before.plate-in.ensures c.before.before.before.if2.false (sym c.before.before.limits-fit.ensures ∙ not-true c.before.before.limits-fit.result c.before.if3.true) c.refused-list3.ensures
 
-prices-fit-requires : tie.Need-prices-fit-requires
-prices-fit-requires c κs = search rules
-
-refused-list-requires-4 : tie.Need-refused-list-requires-4
-refused-list-requires-4 c κs = search rules
-
 returns-4 : tie.Need-returns-4
-returns-4 c = prices_refused (sym c.before.before.before.before.before.before.before.before.before.before.walk-list.ensures.number ∙ c.before.before.before.before.before.before.before.before.if1.false) c.before.before.before.before.before.before.before.plate-in.ensures c.before.before.before.before.before.if2.false (sym c.before.before.before.before.limits-fit.ensures ∙ not-false c.before.before.before.before.limits-fit.result c.before.before.before.if3.false) (sym c.before.before.prices-fit.ensures ∙ not-true c.before.before.prices-fit.result c.before.if4.true) c.refused-list4.ensures
-
-returns-5 : tie.Need-returns-5
-returns-5 c = list_read (record { holds = c.before.before.before.before.before.before.before.before.before.before.walk-list.ensures; passed = sym c.before.before.before.before.before.before.before.before.before.before.walk-list.ensures.number ∙ c.before.before.before.before.before.before.before.before.if1.false }) c.before.before.before.before.before.before.before.plate-in.ensures c.before.before.before.before.before.if2.false (sym c.before.before.before.before.limits-fit.ensures ∙ not-false c.before.before.before.before.limits-fit.result c.before.before.before.if3.false) (sym c.before.before.prices-fit.ensures ∙ not-false c.before.before.prices-fit.result c.before.if4.false)
+returns-4 c = list_read (record { holds = c.before.before.before.before.before.before.before.before.walk-list.ensures; passed = sym c.before.before.before.before.before.before.before.before.walk-list.ensures.number ∙ c.before.before.before.before.before.before.if1.false }) c.before.before.before.before.before.plate-in.ensures c.before.before.before.if2.false (sym c.before.before.limits-fit.ensures ∙ not-false c.before.before.limits-fit.result c.before.if3.false)
 
 pub read-list-spec : {M : Type 1} → statement M
 read-list-spec =
@@ -58,7 +49,4 @@ read-list-spec =
     limits-fit-requires
     refused-list-requires-3
     returns-3
-    prices-fit-requires
-    refused-list-requires-4
-    returns-4
-    returns-5)
+    returns-4)

@@ -4,7 +4,7 @@ use Prim.Native.Nat.{ℕ, ◌%◌}
 use lib.Seq.{length-take-le}
 use borrow.Author.Tests.{not-true, not-false}
 use Rattle.texts.proofs.FaceLeads.{few}
-use Rattle.texts.proofs.ReadLaws.{twins_fault, judged_fault, limits_fault, no_counted_fault}
+use Rattle.texts.proofs.ReadLaws.{twins_fault, judged_fault, limits-fault, no_counted_fault}
 use native.Mathlib.Omega.{arith}
 use Rattle.texts.proofs.filing.counted_fault.Statement.{statement}
 use Rattle.texts.proofs.filing.counted_fault.Tie as tie
@@ -51,7 +51,7 @@ limits-ok-requires c κs =
     (ap (λ (n : ℕ). n % 2) (long ∙ s.dart_count) ∙ a.even_darts, omega (arith, long, s.dart_count, few s a))
 
 returns-3 : tie.Need-returns-3
-returns-3 c = λ p s a. limits_fault p c.before.before.before.before.before.before.before.before.before.before.before.before.before.before.before.args.limits.now c.before.before.before.before.before.before.before.before.before.before.before.before.before.before.before.args.plate.darts c.before.before.before.before.before.before.before.before.before.before.before.before.before.before.before.args.q.angles c.before.before.before.before.before.before.before.before.before.before.before.before.before.before.before.args.q.rights c.before.before.before.before.before.before.before.before.before.before.before.before.before.before.before.args.q.lefts c.before.before.before.before.before.before.before.before.twins-ok.ensures (not-false c.before.before.before.before.before.before.before.before.twins-ok.result c.before.before.before.before.before.before.before.if1.false) (c.before.before.before.before.judge.ensures p s a) (omega (arith, c.before.before.before.if2.false)) c.before.limits-ok.ensures (not-true c.before.limits-ok.result c.if3.true)
+returns-3 c = λ p s a. limits-fault p c.before.before.before.before.before.before.before.before.before.before.before.before.before.before.before.args.limits.now c.before.before.before.before.before.before.before.before.before.before.before.before.before.before.before.args.plate.darts c.before.before.before.before.before.before.before.before.before.before.before.before.before.before.before.args.q.angles c.before.before.before.before.before.before.before.before.before.before.before.before.before.before.before.args.q.rights c.before.before.before.before.before.before.before.before.before.before.before.before.before.before.before.args.q.lefts c.before.before.before.before.before.before.before.before.twins-ok.ensures (not-false c.before.before.before.before.before.before.before.before.twins-ok.result c.before.before.before.before.before.before.before.if1.false) (c.before.before.before.before.judge.ensures p s a) (omega (arith, c.before.before.before.if2.false)) c.before.limits-ok.ensures (not-true c.before.limits-ok.result c.if3.true)
 
 returns-4 : tie.Need-returns-4
 returns-4 c = λ p s a. no_counted_fault p c.before.before.before.before.before.before.before.before.before.before.before.before.before.before.before.args.limits.now c.before.before.before.before.before.before.before.before.before.before.before.before.before.before.before.args.plate.darts c.before.before.before.before.before.before.before.before.before.before.before.before.before.before.before.args.q.angles c.before.before.before.before.before.before.before.before.before.before.before.before.before.before.before.args.q.rights c.before.before.before.before.before.before.before.before.before.before.before.before.before.before.before.args.q.lefts c.before.before.before.before.before.before.before.before.twins-ok.ensures (not-false c.before.before.before.before.before.before.before.before.twins-ok.result c.before.before.before.before.before.before.before.if1.false) (c.before.before.before.before.judge.ensures p s a) (omega (arith, c.before.before.before.if2.false)) c.before.limits-ok.ensures (not-false c.before.limits-ok.result c.if3.false)
