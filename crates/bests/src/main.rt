@@ -1,4 +1,6 @@
 //! The best shapes of document 01's plates, best shapes within limits and by prices, and verdicts on other shapes of P1. The shapes expected are document 01's, P6 straight; those with limits and prices were found by trying all; the verdicts were worked out by hand.
+#![tactic(auto)]
+
 ghost use Rattle.std.specs.Prelude.{◌≡◌, ◌%◌, ◌≤◌, length};
 
 use embedding::read_plate;

@@ -1,11 +1,13 @@
 //! A book of entries, each a model, a revision and the revision replaced: the current revision of a model.
+#![tactic(auto)]
+
 ghost use Rattle.std.specs.Prelude.{◌≡◌, ◌&&◌, ◌||◌, not, ◌+◌, ◌*◌, ◌≤◌, eqb, ltb, length};
 ghost use Rattle.finite.specs.Base.{first_of, when, is_in, word_at};
 ghost use Rattle.book.specs.Entries.{entries, listed_of, fault_at, latest, LastRoom, EntryRoom};
 ghost use Rattle.book.specs.Says.{AnswerIs};
 
 // The current revision, or that the model is not there; a refused book gives its number alone.
-#[derive(Drop)]
+#[derive(Clone, Copy)]
 pub enum Answer {
     Refused(u8),
     Absent,

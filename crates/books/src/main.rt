@@ -1,5 +1,7 @@
 //! Asks small books for the current revision of a model and prints a line for each: the label, and the revision, that the
 //! model is absent, or the refusal's number. The expected lines were worked out by hand from document 02.
+#![tactic(auto)]
+
 use book::{Answer, current_revision};
 use libc::STDOUT_FILENO;
 

@@ -1,4 +1,6 @@
 //! Checks a shape file against a plate list. The arguments: the name of the plate list, the name of the shape file.
+#![tactic(auto)]
+
 use console::{is_unreadable, open_named, say, say_number};
 use plates::check_shape;
 

@@ -1,4 +1,6 @@
 //! For the programs: lines to standard output, and files that arguments name.
+#![tactic(auto)]
+
 use libc::STDOUT_FILENO;
 
 pub fn say(text: &[u8]) {

@@ -1,11 +1,13 @@
 //! Prints the current revision of a model. The arguments: the name of the book, the model as a decimal number.
+#![tactic(auto)]
+
 ghost use Rattle.std.specs.Prelude.{◌≡◌};
 ghost use Rattle.current.specs.Numbers.{number_in};
 
 use book::{Answer, current_revision};
 use console::{complain, is_unreadable, open_named, say, say_number};
 
-#[derive(Drop)]
+#[derive(Clone, Copy)]
 enum Model {
     Number(u16),
     NoNumber,

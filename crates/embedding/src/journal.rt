@@ -9,7 +9,7 @@ ghost use Rattle.embedding.specs.Journal.{EditedTo, step_fault, stepped};
 use crate::{Plate, read_plate, twin_of};
 
 // A step of the journal.
-#[derive(Drop)]
+#[derive(Clone, Copy)]
 pub enum Step {
     Split(usize),
     Hang(usize),
@@ -17,7 +17,7 @@ pub enum Step {
 }
 
 // The plate after a step and 0, or the plate before it and the number of the refusal.
-#[derive(Drop)]
+#[derive(Clone, Copy)]
 pub struct Edited {
     pub number: u8,
     pub plate: Plate,

@@ -1,4 +1,6 @@
 // A plate read from plain slices: refusals 7 to 15, darts, faces.
+#![tactic(auto)]
+
 ghost use Rattle.std.specs.Prelude.{◌≡◌, true, false, List, [], ◌∷◌, ℕ, ◌+◌, ◌-◌, ◌*◌, ◌/◌, ◌%◌, ◌<◌, ◌≤◌, length, get_or};
 ghost use Rattle.finite.specs.Tables.{Table, up_to};
 ghost use Rattle.finite.specs.Walks.{OneToOne};
@@ -14,7 +16,7 @@ use crate::strips::{answer, go_on, no_strips};
 pub mod journal;
 
 // A plate without fault. The j-th dart of post v, clockwise, stands at 4 v + j of `places`; faces are numbered by their lowest darts.
-#[derive(Drop)]
+#[derive(Clone, Copy)]
 pub struct Plate {
     pub posts: usize,
     pub darts: usize,
@@ -29,35 +31,35 @@ pub struct Plate {
 }
 
 // The number of the refusal, or 0 and the plate.
-#[derive(Drop)]
+#[derive(Clone, Copy)]
 pub struct Reading {
     pub number: u8,
     pub plate: Plate,
 }
 
 // A post's part of the order.
-#[derive(Drop)]
+#[derive(Clone, Copy)]
 struct Row {
     ok: bool,
     row: [u8; 4],
 }
 
 // The darts of all posts, four places for each.
-#[derive(Drop)]
+#[derive(Clone, Copy)]
 struct Gathered {
     ok: bool,
     places: [u8; 256],
 }
 
 // The posts reached, and how many.
-#[derive(Drop)]
+#[derive(Clone, Copy)]
 struct Seen {
     seen: [bool; 64],
     count: usize,
 }
 
 // The faces: each dart's face, each face's size, how many.
-#[derive(Drop)]
+#[derive(Clone, Copy)]
 struct Labelled {
     face: [u8; 256],
     sizes: [u16; 256],

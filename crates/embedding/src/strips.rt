@@ -5,7 +5,7 @@ ghost use Rattle.embedding.specs.Pass.{no_strips, add_end, add_strip, GoneOn, An
 use crate::wide;
 
 // What was met so far: an end that is no post (9), a fifth place taken at a post (11); and how many places are taken at each post, one by each strip end, counted up to four.
-#[derive(Drop)]
+#[derive(Clone, Copy)]
 pub struct Strips {
     pub stray: bool,
     pub over: bool,

@@ -1,4 +1,6 @@
 // The walk over the fields of a plate list or a shape file.
+#![tactic(auto)]
+
 ghost use Rattle.std.specs.Prelude.{◌≡◌, true, false, ◌<◌, get_or};
 ghost use Rattle.fields.specs.Files.{tag_ok};
 ghost use Rattle.fields.specs.Rules.{RuleIs, FrontIs, keeps, slot_of, all_seen};
@@ -9,7 +11,7 @@ pub mod ordering;
 pub mod writing;
 
 // The length rule of a tag.
-#[derive(Drop)]
+#[derive(Clone, Copy)]
 pub enum Rule {
     Exactly(usize),
     EvenUpTo(usize),
@@ -18,14 +20,14 @@ pub enum Rule {
 }
 
 // One field: refused, or met with its slot and its content's length.
-#[derive(Drop)]
+#[derive(Clone, Copy)]
 enum Front {
     Fault(u8),
     Met { slot: usize, long: usize },
 }
 
 // Where each field's content stands in the file. A refused file holds nothing.
-#[derive(Drop)]
+#[derive(Clone, Copy)]
 pub struct Fields {
     pub number: u8,
     pub at: [usize; 7],

@@ -9,7 +9,7 @@ use crate::writing::write_field;
 use crate::{Fields, content, walk_older};
 
 // A file put in order: its refusal alone, or 0 with its length.
-#[derive(Drop)]
+#[derive(Clone, Copy)]
 pub struct Ordered {
     pub number: u8,
     pub long: usize,

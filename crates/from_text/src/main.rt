@@ -1,4 +1,6 @@
 //! Writes the shape file of a text. The arguments: the name of the plate list, the name of the text.
+#![tactic(auto)]
+
 use console::{complain, is_unreadable, open_named, say, say_number};
 use texts::read_text;
 

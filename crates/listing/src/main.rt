@@ -1,4 +1,6 @@
 //! Reads a plate list from standard input and prints the listing of its shape, or its refusal.
+#![tactic(auto)]
+
 use libc::{STDIN_FILENO, STDOUT_FILENO};
 use plates::write_listing;
 

@@ -1,4 +1,6 @@
 //! Reads an older plate list or shape file from standard input and writes it with its fields in tag order, or prints its refusal.
+#![tactic(auto)]
+
 use console::{say, say_number};
 use fields::ordering::order_fields;
 use libc::STDIN_FILENO;

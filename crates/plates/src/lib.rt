@@ -1,4 +1,6 @@
 //! From plate list to the shape with fewest bends: shaping, checking, listing.
+#![tactic(auto)]
+
 ghost use Rattle.std.specs.Prelude.{[]};
 ghost use Rattle.embedding.specs.Plates.{Plate as PlateOf};
 ghost use Rattle.embedding.specs.Read.{Stands};
@@ -24,7 +26,7 @@ pub mod listing;
 pub mod reading;
 
 // A shape written: its refusal alone, or 0 with its length and its total bends.
-#[derive(Drop)]
+#[derive(Clone, Copy)]
 pub struct Shaped {
     pub number: u8,
     pub long: u32,
@@ -32,7 +34,7 @@ pub struct Shaped {
 }
 
 // Ours: angles and right bends are those that shaping writes.
-#[derive(Drop)]
+#[derive(Clone, Copy)]
 pub struct Verdict {
     pub number: u8,
     pub total: u32,
@@ -41,7 +43,7 @@ pub struct Verdict {
 }
 
 // A listing given: 0 with its length, or 16 where the lent memory is shorter than it.
-#[derive(Drop)]
+#[derive(Clone, Copy)]
 pub struct Listed {
     pub number: u8,
     pub long: usize,

@@ -9,7 +9,7 @@ use embedding::{Plate, Reading, read_plate};
 use fields::{Fields, byte_of, content, number_of, walk_list, walk_shape};
 
 // The number of the refusal, or 0 with the fields and the plate.
-#[derive(Drop)]
+#[derive(Clone, Copy)]
 pub struct ListRead {
     pub number: u8,
     pub fields: Fields,

@@ -4,13 +4,13 @@ ghost use Rattle.replaying.specs.Lines.{begins_with, number_in, split_of, hang_o
 
 use embedding::journal::{Step, place_of};
 
-#[derive(Drop)]
+#[derive(Clone, Copy)]
 pub enum Number {
     Value(usize),
     NoNumber,
 }
 
-#[derive(Drop)]
+#[derive(Clone, Copy)]
 pub enum Line {
     Taken(Step),
     NoStep,

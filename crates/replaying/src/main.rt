@@ -1,5 +1,7 @@
 //! Replays the editor's journal over a plate list. The arguments: the name of the plate list, the name of the
 //! journal, the name of the file to write.
+#![tactic(auto)]
+
 ghost use Rattle.std.specs.Prelude.{◌≤◌, length};
 ghost use Rattle.replaying.specs.Replays.{Ready};
 

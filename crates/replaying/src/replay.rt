@@ -8,7 +8,7 @@ use edits::edit_list;
 use embedding::journal::{Step, place_of};
 
 // What became of a line: its step was taken, or refused with a number, or it is no step.
-#[derive(Drop)]
+#[derive(Clone, Copy)]
 pub enum Outcome {
     Through,
     Refused(u8),
@@ -16,7 +16,7 @@ pub enum Outcome {
 }
 
 // The list after the last step that was taken, the number of lines gone over, and what became of the last of them.
-#[derive(Drop)]
+#[derive(Clone, Copy)]
 pub struct Replay {
     pub list: [u8; 1024],
     pub long: usize,

@@ -3,6 +3,8 @@
 //! shape, or with a refusal in the whole memory, are as they were lent. A line of checking: the label, the number, and with
 //! 0 the total, the fewest and whether the shape is the one that shaping writes. A line of text: a shape file converted to
 //! its text, which stands behind the line; a line of back: a text converted to the shape file, as a line of shaping.
+#![tactic(auto)]
+
 ghost use Rattle.std.specs.Prelude.{◌<◌};
 
 use libc::STDOUT_FILENO;

@@ -14,7 +14,7 @@ use embedding::Plate;
 use flow::solve::solve;
 
 // The right bends and the angle of each dart, and the sum of the right bends. Unused places are 0.
-#[derive(Drop)]
+#[derive(Clone, Copy)]
 pub struct BestShape {
     pub angles: [u8; 256],
     pub rights: [u8; 256],
@@ -22,7 +22,7 @@ pub struct BestShape {
 }
 
 // The best shape within the limits, or that no shape keeps them; then all its numbers are 0.
-#[derive(Drop)]
+#[derive(Clone, Copy)]
 pub struct BestAnswer {
     pub found: bool,
     pub shape: BestShape,

@@ -1,4 +1,6 @@
 //! The library for C and Rust: what a struct or an enum answers is a number returned and numbers behind references.
+#![tactic(auto)]
+
 ghost use Rattle.plates.specs.Says.{ShapeSays, CheckSays};
 ghost use Rattle.plates.specs.Listing.{ListingSays};
 ghost use Rattle.plates.specs.Answers.{shaped, verdict, listed, ordered};

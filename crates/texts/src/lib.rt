@@ -1,4 +1,6 @@
 //! Shapes as texts of faces: to text and back.
+#![tactic(auto)]
+
 ghost use Rattle.std.specs.Prelude.{◌≡◌};
 ghost use Rattle.plates.specs.Answers.{listed};
 ghost use Rattle.plates.specs.Read.{Readable};

@@ -11,7 +11,7 @@ use crate::scanning::{Got, read_entry};
 use embedding::twin_of;
 
 // The entries read so far: whether some word is mixed, whether they are the first of the plan, and how many.
-#[derive(Drop)]
+#[derive(Clone, Copy)]
 pub struct Filled {
     pub mixed: bool,
     pub fits: bool,
@@ -19,7 +19,7 @@ pub struct Filled {
 }
 
 // The number of the refusal, 30 to 32, or 0 with what the text says of each dart.
-#[derive(Drop)]
+#[derive(Clone, Copy)]
 pub struct Parsed {
     pub number: u8,
     pub angles: [u8; 256],

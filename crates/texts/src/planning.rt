@@ -8,7 +8,7 @@ ghost use Rattle.texts.specs.Plan.{FaceRoom, FaceLaid, NumberRoom, NumberFits, N
 use embedding::Plate;
 
 // The darts laid so far, in turn, and whether each ends its line.
-#[derive(Drop)]
+#[derive(Clone, Copy)]
 pub struct Laid {
     pub order: [u8; 256],
     pub ends: [bool; 256],

@@ -7,7 +7,7 @@ ghost use Rattle.plates.specs.Grammar.{run_of, bends};
 ghost use Rattle.texts.specs.Parses.{capped, NumberRead, WordRead, EntryRead};
 
 // A number and the space behind it: told exactly below 1000; how many bytes they are.
-#[derive(Drop)]
+#[derive(Clone, Copy)]
 pub struct Number {
     pub ok: bool,
     pub value: usize,
@@ -15,7 +15,7 @@ pub struct Number {
 }
 
 // A word and the space behind it: its right and left bends; how many bytes they are.
-#[derive(Drop)]
+#[derive(Clone, Copy)]
 pub struct Word {
     pub ok: bool,
     pub right: usize,
@@ -24,7 +24,7 @@ pub struct Word {
 }
 
 // An entry, and how many bytes it is.
-#[derive(Drop)]
+#[derive(Clone, Copy)]
 pub struct Got {
     pub ok: bool,
     pub dart: usize,

@@ -1,4 +1,6 @@
 //! Writes the text of a shape file. The arguments: the name of the plate list, the name of the shape file.
+#![tactic(auto)]
+
 use console::{is_unreadable, open_named, say, say_number};
 use texts::write_text;
 

@@ -1,4 +1,6 @@
 //! Walks short files, with the number of each; puts older ones in order; then writes fields and shows their bytes.
+#![tactic(auto)]
+
 ghost use Rattle.io.specs.Counts.{IsPrefixLen};
 
 use fields::ordering::order_fields;
