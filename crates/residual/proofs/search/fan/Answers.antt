@@ -23,7 +23,7 @@ returns-then-wanted-v-gt0-clause-further c = fan_further c.requires.chain (near_
 pub returns-then-wanted-v-gt0-clause-spent_at : goal.returns-then-wanted-v-gt0-clause-spent_at
 returns-then-wanted-v-gt0-clause-spent_at c =
     let there = place (goal.at.returns-then-wanted-v-gt0-clause-spent_at c).Then-v-lt-NO_NODE in
-    λ z. absurd (omega (arith, c.if-wanted-v-gt0.true, ap (λ (w : ℕ). get_or c.args.wanted.now w 0) (newest c.loop-at.queue c.loop-at.next c.reached_by-v.result there)))
+    λ z. absurd (omega (arith, ap (λ (w : ℕ). get_or c.args.wanted.now w 0) (newest c.loop-at.queue c.loop-at.next c.reached_by-v.result there)))
 
 pub loop-at-preserved : goal.loop-at-preserved
 loop-at-preserved c =

@@ -9,8 +9,8 @@ use Rattle.residual.proofs.search.search.Goals as goal
 pub loop-next-preserved : goal.loop-next-preserved
 loop-next-preserved c =
     let wants : ℕ → ℕ = λ v. get_or c.args.wanted.now v 0 in
-    let none : wants (get_or c.loop-next.queue c.loop-next.next 0) ≡ 0 = omega (arith, c.if-wanted-u-gt0.false, ap wants c.node_at-u.ensures) in
-    let last : wants (get_or c.visit-count.new.queue (c.visit-count.result - 1) 0) ≡ 0 = omega (arith, c.if-wanted-newest-gt0.false, ap wants c.node_at-newest.ensures) in
+    let none : wants (get_or c.loop-next.queue c.loop-next.next 0) ≡ 0 = omega (arith, ap wants c.node_at-u.ensures) in
+    let last : wants (get_or c.visit-count.new.queue (c.visit-count.result - 1) 0) ≡ 0 = omega (arith, ap wants c.node_at-newest.ensures) in
     going_next c.loop-next.invariant c.visit-count.ensures.further c.loop-next-test.true none (rw c.node_at-u.ensures at (c.visit-count.ensures.done last))
 
 pub returns : goal.returns
