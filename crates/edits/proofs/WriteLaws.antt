@@ -13,7 +13,7 @@ use Rattle.fields.specs.Writing.{Written}
 use Rattle.fields.specs.declared.Fields.{Fields}
 use Rattle.fields.proofs.Puts.{written_none, written_then}
 use Rattle.fields.proofs.Laid.{absent_none}
-use Rattle.embedding.specs.Plates.{Plate, darts}
+use Rattle.embedding.specs.Plates.{Plate}
 use Rattle.embedding.specs.Read.{Stands, Accepted}
 use Rattle.embedding.specs.Edits.{laid}
 use Rattle.embedding.specs.Arrays.{Front, Appended, row_in}
