@@ -10,7 +10,6 @@ use lib.Seq.{ext_get_or}
 use borrow.Author.Tests.{le-leb, leb-true}
 use Rattle.finite.proofs.Tests.{and_left, and_right, and_both, and_assoc, over_each}
 use Rattle.embedding.proofs.Rotation.{Ordered, twin_below}
-use Rattle.embedding.proofs.Faultless as Faultless
 use Rattle.shapes.specs.Claims.{Accepted}
 use Rattle.shapes.proofs.Accepted.{faultless, ordered}
 use Rattle.shapes.proofs.Words.{words_ext, rights_at}

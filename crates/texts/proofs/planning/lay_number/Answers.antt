@@ -1,0 +1,11 @@
+-- `texts::planning::lay_number`: the walk from the lowest dart of that face.
+use Rattle.texts.proofs.LayingLaws.{number_room, number_laid}
+use Rattle.texts.proofs.planning.lay_number.Goals as goal
+
+pub lay_face-requires : goal.lay_face-requires
+lay_face-requires c =
+    let (p, s, a, fits) = c.requires in
+    number_room s a fits c.lead_of-start.ensures
+
+pub returns : goal.returns
+returns c = λ p s a fits. number_laid s a fits c.lead_of-start.ensures c.lay_face.ensures
