@@ -105,7 +105,7 @@ def table(root):
     for new, olds in met.items():
         plain = [o for o in olds if "-" not in o]
         keep = plain[0] if len(plain) == 1 else olds[0] if len(olds) == 1 else None
-        if olds[0] in types:
+        if olds[0] in types or re.match(r"[A-Z][a-z]+(-\w+)+$", olds[0]):
             keep = olds[0] if len(olds) == 1 and new not in types else None
         elif new in words - set(LEMMAS) or new in lent:
             keep = None
@@ -126,12 +126,16 @@ def turn_words(text, rows):
     return TOKEN.sub(lambda m: rows.get(m.group(), m.group()), text)
 
 
+def turn_spans(text, rows):
+    return re.sub(r"`([^`\n]*)`", lambda m: "`" + turn_words(m.group(1), rows) + "`", text)
+
+
 def turn_antt(text, rows):
     out = []
     for line in text.split("\n"):
         code, dash, note = line.partition("--")
         if line.lstrip().startswith("--") or dash and (code.endswith(" ") or not code):
-            note = re.sub(r"`[^`]*`", lambda m: turn_words(m.group(), rows), note)
+            note = turn_spans(note, rows)
             note = re.sub(WORD, lambda m: rows.get(m.group(), m.group()) if re.search(r"[a-z][A-Z]|-\w", m.group()) and m.group() in rows and re.search("[a-z][A-Z]", m.group()) else m.group(), note)
             out.append(turn_words(code, rows) + dash + note)
         else:
@@ -157,7 +161,8 @@ def turn_rt(text, rows):
         end = m.end() if text[m.end() - 1] == ";" else closing(text, m.end() - 1)
         out += [text[at:m.start()], turn_words(text[m.start():end], rows)]
         at = end
-    return "".join(out) + text[at:]
+    turned = "".join(out) + text[at:]
+    return re.sub(r"//[^\n]*", lambda m: turn_spans(m.group(), rows), turned)
 
 
 def main(argv):

@@ -8,7 +8,7 @@ some_loop [] = false
 some_loop (a ∷ []) = false
 some_loop (a ∷ (b ∷ es)) = eqb a b || some_loop es
 
--- `plateFault` with 10 in its place
+-- `plate_fault` with 10 in its place
 abbrev pub plate_fault_before : Plate → ℕ
 plate_fault_before p = let n = p.posts in first_of (when (eqb n 0 || ltb 64 n) 7) (first_of (when (eqb (darts p) 0) 8) (first_of (when (not (all_below n p.ends)) 9) (first_of (when (some_loop p.ends) 10) (first_of (when (over_four n 0 p) 11) (first_of (when (not (eqb (length p.order) (darts p) && parts_ok n 0 p)) 12) (first_of (when (leb (darts p) p.outer) 13) (first_of (when (not (connected p)) 14) (when (not (is_plane p)) 15))))))))
 

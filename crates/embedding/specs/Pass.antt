@@ -39,7 +39,7 @@ first_met stray over = first_of (when stray 9) (when over 11)
 abbrev pub answer_of : Strips → ℕ
 answer_of s = first_met s.stray s.over
 
--- the same of a plate, as `plateFault` has it
+-- the same of a plate, as `plate_fault` has it
 abbrev pub strips_fault : Plate → ℕ
 strips_fault p = first_met (not (all_below p.posts p.ends)) (over_four p.posts 0 p)
 

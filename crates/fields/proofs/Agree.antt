@@ -1,4 +1,4 @@
--- The rule of a tag agrees with `tagOk` and `longOk`: shown at each tag by computation, and where the tag is none of them. Assumes nothing.
+-- The rule of a tag agrees with `tag_ok` and `long_ok`: shown at each tag by computation, and where the tag is none of them. Assumes nothing.
 use mathlib.Core.Path.{◌≡◌, refl, sym, subst, ap, ◌∙◌}
 use mathlib.Core.Bool.{Bool, true, false, ◌&&◌, not}
 use Prim.Native.Nat.{ℕ, ◌+◌, ◌≤◌, ◌<◌}

@@ -1,4 +1,4 @@
--- One field at the front of s: what each refusal's facts make of `frontOf`, in the code's order. Assumes nothing.
+-- One field at the front of s: what each refusal's facts make of `front_of`, in the code's order. Assumes nothing.
 use mathlib.Core.Path.{◌≡◌, refl, sym, ap, ◌∙◌}
 use mathlib.Core.Logic.{⊎_elim}
 use mathlib.Core.Bool.{Bool, true, false}

@@ -33,7 +33,7 @@ module _ (o : Bool) (l : ℕ) (k : Bool) (fs : List Field) (r : List ℕ) where
   pub from_met : eqb (length r) 0 ≡ false → eqb (fault_by o k fs r) 0 ≡ true → fields_by o (suc l) k fs r ≡ fields_by o l k (add_field fs (field_at r)) (drop (3 + head_long r) r)
   from_met = with_met (fault_by o k) l k fs r
 
--- ---- the flag that a slot gives in place of `hasTag`
+-- ---- the flag that a slot gives in place of `has_tag`
 pub fault_same : (k : Bool) (a b c : Bool) (r : List ℕ) → (tag_ok k (get_or r 0 0) ≡ true → a ≡ b) → fault_where k a c r ≡ fault_where k b c r
 fault_same k a b c r h = go (tag_ok k (get_or r 0 0)) refl
   where

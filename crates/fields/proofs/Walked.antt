@@ -19,7 +19,7 @@ use Rattle.fields.proofs.Agree.{tag_from}
 use Rattle.fields.proofs.Turns.{from_end, from_fault, from_met, fault_same, below_is, Passed, passed, content_size}
 use Rattle.fields.proofs.Added.{end_from, end_add, last_add, has_other, content_other, place_other, has_own, content_own, place_own}
 
--- ---- which of its two answers `frontOf` gave
+-- ---- which of its two answers `front_of` gave
 fault-by : (e i n x : ℕ) → Fault x ≡ pick (eqb e 0) (Met i n) (Fault e) → (eqb e 0 ≡ false) × (x ≡ e)
 fault-by e i n x q = go (eqb e 0) refl q
   where

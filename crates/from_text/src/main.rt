@@ -16,7 +16,7 @@ fn show(list: &[u8], text: &[u8], out: &mut [u8]) {
 }
 
 // Of a longer list only the first 4,096 bytes are read, which have the number of the whole (`Files.front`). No text
-// of over 66,962 bytes is accepted (`Text-short.accepted`), and of such a one no answer is given. A written
+// of over 66,962 bytes is accepted (`TextShort.accepted`), and of such a one no answer is given. A written
 // shape file has at most 528 bytes, so 16 is never printed.
 fn convert(list_file: i32, text_file: i32) {
     let mut list = io::buffer();

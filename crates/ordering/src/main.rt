@@ -16,7 +16,7 @@ fn show(file: &[u8], out: &mut [u8]) {
     say(&out[..long]);
 }
 
-// Of longer input only the first 1,024 bytes are read, which have the answer of the whole (`Tag-order.front`). The memory
+// Of longer input only the first 1,024 bytes are read, which have the answer of the whole (`TagOrder.front`). The memory
 // lent is as long as what is read, and a file in order is as long as before, so 16 is never printed.
 fn main() {
     let mut file = [0u8; 1024];

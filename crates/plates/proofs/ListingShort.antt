@@ -13,7 +13,7 @@ use Rattle.shapes.proofs.Accepted.{shape_is_flow}
 use Rattle.plates.specs.Shapes.{total, rights_of, shape_of}
 use Rattle.plates.specs.Files.{content_of, walk_all, plate_of}
 use Rattle.plates.specs.Says.{word, all_bytes}
-use Rattle.plates.specs.Listing.{decimal, revision_word, bends_word, refused_word, refused_text, dart_lines, listing_text, Listing-short}
+use Rattle.plates.specs.Listing.{decimal, revision_word, bends_word, refused_word, refused_text, dart_lines, listing_text, ListingShort}
 use Rattle.plates.proofs.Contents.{list_fields}
 use Rattle.plates.proofs.Lists.{list_walked, list_accepted}
 use Rattle.plates.proofs.ReadsBack.{rights_many}
@@ -78,7 +78,7 @@ byte_at [] i e = omega arith
 byte_at (x ∷ xs) zero e = ltb-true x 256 (and_left (ltb x 256) (all_bytes xs) e)
 byte_at (x ∷ xs) (suc i) e = byte_at xs i (and_right (ltb x 256) (all_bytes xs) e)
 
-pub listing_short : Listing-short
+pub listing_short : ListingShort
 listing_short s a r e bytes best counts =
     let p = plate_of s in
     let c = content_of 1 (walk_all false s).fields in

@@ -10,7 +10,7 @@ use Rattle.shapes.proofs.Meets.{Meets, meets_facts}
 use Rattle.plates.specs.Plates.{Plate, darts}
 use Rattle.plates.specs.Shapes.{Shape, meets, bends, total, rights_of, strip_bends, all_within, shape_of}
 use Rattle.plates.specs.Files.{Field, Walk, walk, has_tag, content_of, walk_all, list_fault, plate_of, limits_of, file_bytes, shape_bytes}
-use Rattle.plates.specs.Says.{word, angles_in, rights_in, check_fault, file_long, Reads-back}
+use Rattle.plates.specs.Says.{word, angles_in, rights_in, check_fault, file_long, ReadsBack}
 use Rattle.plates.specs.Remarks.{NoRemark}
 use Rattle.plates.proofs.Contents.{ListFields, list_fields}
 use Rattle.plates.proofs.Lists.{list_walked}
@@ -79,5 +79,5 @@ module _ (s a r : List ℕ) (e : list_fault s ≡ 0) (m : meets (plate_of s) (sh
     pub written_reads_back : (check_fault s (shape_bytes fs x) ≡ 0) × (angles_in (shape_bytes fs x) ≡ a) × (rights_in (shape_bytes fs x) ≡ r) × (length (shape_bytes fs x) ≡ file_long s)
     written_reads_back = subst (λ (t : List ℕ). (check_fault s t ≡ 0) × (angles_in t ≡ a) × (rights_in t ≡ r) × (length t ≡ file_long s)) (sym shape-bytes) (sound_back, angles_back, rights_back, long_back)
 
-pub reads_back : Reads-back
+pub reads_back : ReadsBack
 reads_back s a r e bytes best counts = written_reads_back s a r e best.meets_all counts best.keeps_all

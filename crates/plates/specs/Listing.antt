@@ -112,7 +112,7 @@ abbrev pub ListingSays : List ℕ → List ℕ → List ℕ → Listed → Type 
 ListingSays s o o' r = (none : Bool) × NoneKeeps none s × ListingWith (listing_fault none s) s o o' r
 
 -- no listing of an accepted list is longer than 6939 bytes
-abbrev pub Listing-short : Type 0
-Listing-short =
+abbrev pub ListingShort : Type 0
+ListingShort =
     (s a r : List ℕ) → list_fault s ≡ 0 → all_bytes s ≡ true → BestOf s (shape_of (plate_of s) a r) → rights_of (shape_of (plate_of s) a r).words ≡ r
     → length (listing_text (word (content_of 1 (walk_all false s).fields)) a r) ≤ 6939

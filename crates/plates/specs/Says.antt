@@ -74,8 +74,8 @@ abbrev pub CheckSays : List ℕ → List ℕ → DV.Verdict → Type 0
 CheckSays s t r = CheckWith (check_fault s t) s t r
 
 -- a written shape is sound for its list and reads back as the same angles and right bends
-abbrev pub Reads-back : Type 0
-Reads-back =
+abbrev pub ReadsBack : Type 0
+ReadsBack =
     (s a r : List ℕ) → list_fault s ≡ 0 → all_bytes s ≡ true → C.BestOf s (shape_of (plate_of s) a r) → rights_of (shape_of (plate_of s) a r).words ≡ r
     → let b = shape_bytes (walk_all false s).fields (shape_of (plate_of s) a r) in (check_fault s b ≡ 0) × (angles_in b ≡ a) × (rights_in b ≡ r) × (length b ≡ file_long s)
 
@@ -89,7 +89,7 @@ SoundExactly =
 pub record Demands : Type 0 where
   pub sound_exactly : SoundExactly
   pub all : C.Demands
-  pub reads_back : Reads-back
+  pub reads_back : ReadsBack
 
 -- fields 02 to 05 and 07 of two lists are the same: they differ in revision and remark at most
 pub record SamePlate (s t : List ℕ) : Type 0 where

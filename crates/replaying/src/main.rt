@@ -13,7 +13,7 @@ use plates::write_listing;
 mod lines;
 mod replay;
 
-// Prints the listing of a plate list, by way of `text`. 8,192 bytes hold every listing (`Listing-short`).
+// Prints the listing of a plate list, by way of `text`. 8,192 bytes hold every listing (`ListingShort`).
 fn show(list: &[u8], text: &mut [u8]) {
     let listed = write_listing(list, text);
     let long = listed.long;

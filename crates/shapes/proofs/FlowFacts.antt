@@ -1,4 +1,4 @@
--- What `isFlow` tests, as facts, and back.
+-- What `is_flow` tests, as facts, and back.
 use mathlib.Core.Path.{◌≡◌, refl, sym, ◌∙◌}
 use mathlib.Core.Bool.{Bool, true, ◌&&◌}
 use mathlib.Core.List.{List}
@@ -13,7 +13,7 @@ use Rattle.embedding.proofs.Totals.{end_sum}
 use Rattle.shapes.specs.Claims.{balanced, all_balanced, units_ok, corners_from, posts_supply, is_flow}
 use Rattle.shapes.proofs.Totals.{corners_from_sum}
 
--- what `isFlow` says, as facts
+-- what `is_flow` says, as facts
 pub record IsFlow (p : Plate) (cs xs : List ℕ) : Type 0 where
   pub corners_long : length cs ≡ darts p
   pub units_long : length xs ≡ darts p

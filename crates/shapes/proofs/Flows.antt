@@ -1,4 +1,4 @@
--- The flows of a plate's network are those that `isFlow` tests.
+-- The flows of a plate's network are those that `is_flow` tests.
 use mathlib.Core.Path.{◌≡◌, sym, subst, ◌∙◌}
 use mathlib.Core.Bool.{Bool, true, false}
 use mathlib.Core.List.{List, ◌++◌}

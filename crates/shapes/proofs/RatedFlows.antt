@@ -1,4 +1,4 @@
--- The flows of a plate's network with limits and prices: flows that `isFlow` tests, within the limits, each corner on two arcs; what they cost.
+-- The flows of a plate's network with limits and prices: flows that `is_flow` tests, within the limits, each corner on two arcs; what they cost.
 use mathlib.Core.Path.{◌≡◌, sym, ap, subst, ◌∙◌}
 use mathlib.Core.Bool.{Bool, true, false}
 use mathlib.Core.List.{List, ◌++◌}

@@ -16,7 +16,7 @@ fn show(list: &[u8], shape: &[u8], out: &mut [u8]) {
 }
 
 // Of a longer file only the first 4,096 bytes are read. Such a file is refused, by the number that the whole
-// has (`Files.front`). No text has more than 66,962 bytes (`Text-short.written`), so 16 is never printed.
+// has (`Files.front`). No text has more than 66,962 bytes (`TextShort.written`), so 16 is never printed.
 fn convert(list_file: i32, shape_file: i32) {
     let mut list = io::buffer();
     let n = io::read_full(list_file, &mut list);
