@@ -341,7 +341,7 @@ fn strips_to_itself(rt: &impl Print) -> io::Result<()> {
     )
 }
 
-// Refusals 12 to 15, each against the next.
+// Refusals 12 and 13, each against the next.
 fn order_and_whole(rt: &impl Print) -> io::Result<()> {
     // The order has a dart too few.
     shape(
@@ -366,7 +366,11 @@ fn order_and_whole(rt: &impl Print) -> io::Result<()> {
         rt,
         b"outer dart 4",
         b"\x01\x00\x02\x00\x07\x02\x00\x01\x02\x03\x00\x04\x00\x01\x00\x01\x04\x00\x04\x00\x02\x01\x03\x05\x00\x01\x04",
-    )?;
+    )
+}
+
+// Refusals 13 to 15, each against the next.
+fn whole_plates(rt: &impl Print) -> io::Result<()> {
     // 13 comes before 14.
     shape(
         rt,
@@ -481,7 +485,11 @@ fn sound_p1(rt: &impl Print) -> io::Result<()> {
         rt,
         b"P1, four bends",
         b"\x11\x00\x02\x00\x07\x12\x00\x02\x00\x04\x13\x00\x04\x01\x03\x03\x01\x14\x00\x04\x00\x00\x01\x03",
-    )?;
+    )
+}
+
+// More sound shapes of P1: bends of two bytes, another angle, a remark, the fields in reversed order.
+fn sound_p1_with_more(rt: &impl Print) -> io::Result<()> {
     // 255 and 253 of them: a total of two bytes.
     check_p1(
         rt,
@@ -734,7 +742,11 @@ fn bend_limits(rt: &impl Print) -> io::Result<()> {
         rt,
         b"P1, limits 1 0",
         b"\x01\x00\x02\x00\x07\x02\x00\x01\x02\x03\x00\x04\x00\x01\x00\x01\x04\x00\x04\x00\x02\x01\x03\x05\x00\x01\x01\x07\x00\x02\x01\x00",
-    )?;
+    )
+}
+
+// Limits of bends in memory one byte short: 24 and 16.
+fn bend_limits_in_23(rt: &impl Print) -> io::Result<()> {
     let mut short = [0xeeu8; 23];
     // 24 comes before 16.
     shape_into(
@@ -749,7 +761,11 @@ fn bend_limits(rt: &impl Print) -> io::Result<()> {
         b"P1, limits 1 1, in 23",
         b"\x01\x00\x02\x00\x07\x02\x00\x01\x02\x03\x00\x04\x00\x01\x00\x01\x04\x00\x04\x00\x02\x01\x03\x05\x00\x01\x01\x07\x00\x02\x01\x01",
         &mut short,
-    )?;
+    )
+}
+
+// Limits of bends that are refused, and what comes before them.
+fn limits_refused(rt: &impl Print) -> io::Result<()> {
     // One limit for two strips.
     shape(
         rt,
@@ -805,7 +821,11 @@ fn check_limits(rt: &impl Print) -> io::Result<()> {
         b"P1, limits 1 0",
         b"\x01\x00\x02\x00\x07\x02\x00\x01\x02\x03\x00\x04\x00\x01\x00\x01\x04\x00\x04\x00\x02\x01\x03\x05\x00\x01\x01\x07\x00\x02\x01\x00",
         b"\x11\x00\x02\x00\x07\x12\x00\x02\x00\x02\x13\x00\x04\x01\x03\x03\x01\x14\x00\x04\x01\x00\x00\x01",
-    )?;
+    )
+}
+
+// Bends to both sides, the fewest within limits, and 23 before all of the shape file.
+fn check_more_limits(rt: &impl Print) -> io::Result<()> {
     // Bends to both sides count.
     check(
         rt,
@@ -958,7 +978,7 @@ fn back_p1(rt: &impl Print, label: &[u8], text: &[u8]) -> io::Result<()> {
     )
 }
 
-// Both ways: P1, P2, a strip to itself, a shape that is not ours; remarks of a file and of a list, which are passed over.
+// To text: P1, P2, a strip to itself, a shape that is not ours; a remark of a file, which is passed over.
 fn texts(rt: &impl Print) -> io::Result<()> {
     text_p1(
         rt,
@@ -986,7 +1006,11 @@ fn texts(rt: &impl Print) -> io::Result<()> {
         rt,
         b"P1, with remark",
         b"\x11\x00\x02\x00\x07\x12\x00\x02\x00\x02\x13\x00\x04\x01\x03\x03\x01\x14\x00\x04\x00\x00\x00\x02\x15\x00\x01\x41",
-    )?;
+    )
+}
+
+// Back: P1, a shape that is not ours, a strip to itself; a remark of a list, which is passed over.
+fn texts_back(rt: &impl Print) -> io::Result<()> {
     back_p1(rt, b"P1", b"1 - 3 2 11 3\n0 - 1 3 00 1\n")?;
     back_p1(rt, b"P1, bends on dart 0", b"1 11 3 2 - 3\n0 00 1 3 - 1\n")?;
     back(
@@ -1077,7 +1101,7 @@ fn counts_refused(rt: &impl Print) -> io::Result<()> {
     )
 }
 
-// Memory one byte short, and just enough, both ways; 31 before 16.
+// To text: memory one byte short, and just enough; 31 before 16.
 fn text_memory(rt: &impl Print) -> io::Result<()> {
     let mut short = [0xeeu8; 25];
     text_into(
@@ -1102,7 +1126,11 @@ fn text_memory(rt: &impl Print) -> io::Result<()> {
         b"\x01\x00\x02\x00\x07\x02\x00\x01\x02\x03\x00\x04\x00\x01\x00\x01\x04\x00\x04\x00\x02\x01\x03\x05\x00\x01\x01",
         b"\x11\x00\x02\x00\x07\x12\x00\x02\x00\x04\x13\x00\x04\x01\x03\x03\x01\x14\x00\x04\x01\x01\x00\x02",
         &mut none,
-    )?;
+    )
+}
+
+// Back: memory one byte short, and just enough.
+fn back_memory(rt: &impl Print) -> io::Result<()> {
     let mut less = [0xeeu8; 23];
     back_into(
         rt,
@@ -1131,10 +1159,12 @@ fn main(rt: HostRuntime) -> io::Result<()> {
     strips(&rt)?;
     strips_to_itself(&rt)?;
     order_and_whole(&rt)?;
+    whole_plates(&rt)?;
     copies(&rt)?;
     memory(&rt)?;
     ring_of_64(&rt)?;
     sound_p1(&rt)?;
+    sound_p1_with_more(&rt)?;
     sound_others(&rt)?;
     check_to_itself(&rt)?;
     check_walks(&rt)?;
@@ -1142,10 +1172,15 @@ fn main(rt: HostRuntime) -> io::Result<()> {
     check_angles(&rt)?;
     check_turns(&rt)?;
     bend_limits(&rt)?;
+    bend_limits_in_23(&rt)?;
+    limits_refused(&rt)?;
     check_limits(&rt)?;
+    check_more_limits(&rt)?;
     texts(&rt)?;
+    texts_back(&rt)?;
     texts_refused(&rt)?;
     lines_refused(&rt)?;
     counts_refused(&rt)?;
-    text_memory(&rt)
+    text_memory(&rt)?;
+    back_memory(&rt)
 }

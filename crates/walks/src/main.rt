@@ -303,7 +303,7 @@ fn list_two(rt: &impl Print) -> io::Result<()> {
     list(rt, b"2, then 5", b"\x10\x00\x00\x01\x00\x02\x00")
 }
 
-// Where the walk over a shape ends, and which field is absent.
+// Where the walk over a shape ends.
 fn shape_ends(rt: &impl Print) -> io::Result<()> {
     // No byte ends the walk; every field is absent.
     shape(rt, b"empty", b"")?;
@@ -322,7 +322,11 @@ fn shape_ends(rt: &impl Print) -> io::Result<()> {
         rt,
         b"P1 and two bytes",
         b"\x11\x00\x02\x00\x07\x12\x00\x02\x00\x02\x13\x00\x04\x01\x03\x03\x01\x14\x00\x04\x00\x00\x00\x02\x15\x00",
-    )?;
+    )
+}
+
+// A field of a shape is absent.
+fn shape_absent(rt: &impl Print) -> io::Result<()> {
     // The revision is absent.
     shape(
         rt,
@@ -454,7 +458,11 @@ fn older_files(rt: &impl Print) -> io::Result<()> {
         b"shape reversed",
         b"\x15\x00\x01\x41\x14\x00\x04\x00\x00\x00\x02\x13\x00\x04\x01\x03\x03\x01\x12\x00\x02\x00\x02\x11\x00\x02\x00\x07",
         true,
-    )?;
+    )
+}
+
+// Older files with a fault.
+fn older_faults(rt: &impl Print) -> io::Result<()> {
     // Every other number is as before: 2, 3, 4, 5, 1.
     older(rt, b"05, then 00", b"\x05\x00\x01\x01\x00\x00\x00", false)?;
     older(
@@ -559,11 +567,13 @@ fn main(rt: HostRuntime) -> io::Result<()> {
     list_below(&rt)?;
     list_two(&rt)?;
     shape_ends(&rt)?;
+    shape_absent(&rt)?;
     shape_tags(&rt)?;
     shape_lengths(&rt)?;
     long_lists(&rt)?;
     long_shapes(&rt)?;
     older_files(&rt)?;
+    older_faults(&rt)?;
     ordered_files(&rt)?;
     written(&rt)?;
     long_written(&rt)
