@@ -14,7 +14,7 @@ use Rattle.finite.specs.Walks.{walk, orbit, OneToOne, lowest}
 use Rattle.finite.proofs.Orbit.{lead_lowest, leads, orbit_start, orbit_below, lead_le}
 use Rattle.finite.proofs.Tables.{table_cong, table_set, up_below, up_from}
 use Rattle.finite.proofs.Tests.{not_true_false, and_both, or_left_false, or_right_false}
-use Rattle.embedding.specs.Plates.{pick, is_in, Plate, darts, after, face_of, is_lowest, faces_from, faces}
+use Rattle.embedding.specs.Plates.{pick, is_in, Plate, darts, after, face_of, is_lowest, faces_from}
 use Rattle.embedding.specs.Steps.{next_of, FaceLabelled}
 use Rattle.embedding.specs.Read.{lead, place_of, face_number, face_size, Follows, Numbered, Fitting, FacesLabelled}
 use Rattle.embedding.proofs.Faces.{face_is, from_in}

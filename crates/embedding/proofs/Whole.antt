@@ -14,7 +14,7 @@ use Rattle.finite.proofs.Members.{all_of}
 use Rattle.finite.proofs.Pigeonhole.{at_most}
 use Rattle.finite.proofs.Tables.{table_cong, up_below, up_cong}
 use Rattle.finite.proofs.Tests.{or_left_false, or_right_false, first_none, first_some, when_none}
-use Rattle.embedding.specs.Plates.{pick_t, first_of, when, Plate, plate, darts, twin, ends_at, part_of, all_below, parts_ok, last_of, just_before, after, faces, reach, connected, is_plane, plate_fault}
+use Rattle.embedding.specs.Plates.{pick_t, first_of, when, Plate, darts, twin, ends_at, part_of, all_below, parts_ok, last_of, just_before, after, faces, reach, connected, is_plane, plate_fault}
 use Rattle.embedding.specs.Steps.{Few, place_in, after_in, next_of}
 use Rattle.embedding.specs.Pass.{strips_fault, early_fault, late_fault}
 use Rattle.embedding.specs.Read.{Follows, face_size, Stands, blank, Past, refusal, Reads}

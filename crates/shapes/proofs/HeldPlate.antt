@@ -10,7 +10,7 @@ use lib.Dec.{ltb}
 use lib.ListN.{length, get_or, get_or-eq_default}
 use Rattle.finite.proofs.Tables.{up_below, up_from}
 use Rattle.finite.proofs.Tests.{each_over}
-use Rattle.embedding.specs.Plates.{all_below, Plate, darts, twin, ends_at, faces}
+use Rattle.embedding.specs.Plates.{all_below, Plate, darts, twin, ends_at}
 use Rattle.embedding.specs.Read.{Stands, face_number}
 use Rattle.embedding.specs.declared.Plate.{Plate as Held}
 use Rattle.embedding.proofs.Rotation.{twin_dart, leaves_below}

@@ -1,0 +1,11 @@
+-- `embedding::row_of` meets its contract: the places before i are copied.
+use Prim.Native.Nat.{◌-◌, ◌≤◌}
+use lib.ListN.{length, get_or}
+use Rattle.finite.specs.Tables.{Table, up_to}
+use Rattle.embedding.proofs.row_of.Given as goal
+
+abbrev pub invariant-loop-i : goal.invariant-loop-i
+invariant-loop-i l = Table 4 (up_to l.i (λ j. get_or l.s j 0)) l.row × (l.i ≤ length l.s)
+
+abbrev pub decreases-loop-i : goal.decreases-loop-i
+decreases-loop-i l = length l.s - l.i

@@ -1,0 +1,6 @@
+-- `gap_at`: the arcs out of u, then the arcs into it; a node that is not reached has none.
+use Rattle.residual.proofs.Gaps.{from_both}
+use Rattle.residual.proofs.prices.gap_at.Goals as goal
+
+pub returns : goal.returns
+returns c = from_both c.gap_by-on.ensures c.gap_by.ensures

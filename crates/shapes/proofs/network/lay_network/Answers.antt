@@ -1,0 +1,25 @@
+-- `lay_network`: the arcs of the darts, then those of the corners, and the nodes; together they are the network.
+use Rattle.shapes.proofs.Filled.{table_of}
+use Rattle.shapes.proofs.Laid.{holds_few, holds_faced, holds_jointed, holds_sized, network_laid}
+use native.Mathlib.Omega.{arith}
+use Rattle.shapes.proofs.network.lay_network.Goals as goal
+
+pub fill_bend_ends-requires : goal.fill_bend_ends-requires
+fill_bend_ends-requires c = (holds_faced c.args.q c.requires.0, c.requires.1.tails_long, c.requires.1.heads_long)
+
+pub fill_corner_ends-requires : goal.fill_corner_ends-requires
+fill_corner_ends-requires c =
+    let bend = c.fill_bend_ends.ensures in
+    (holds_faced c.args.q c.requires.0, c.requires.0.1.strip_ends.size, bend.tails_begun.size, bend.heads_begun.size)
+
+pub fill_corner_rates-requires : goal.fill_corner_rates-requires
+fill_corner_rates-requires c =
+    let bend = c.lay_bend_rates.ensures in
+    (holds_jointed c.args.q c.requires.0, bend.lowers_begun.size, bend.uppers_begun.size, bend.costs_begun.size)
+
+pub fill_demands-requires : goal.fill_demands-requires
+fill_demands-requires c = (omega (arith, c.requires.1.demands_long, holds_few c.args.q c.requires.0), holds_sized c.args.q c.requires.0)
+
+pub returns : goal.returns
+returns c = λ p s a. network_laid p c.args.q s a c.args.limits.now c.args.prices.now c.fill_bend_ends.ensures c.lay_bend_rates.ensures c.fill_corner_ends.ensures c.fill_corner_rates.ensures
+    (table_of c.requires.1.supplies_long c.fill_supplies.ensures) (table_of c.requires.1.demands_long c.fill_demands.ensures)
