@@ -105,10 +105,8 @@ fn run(rt: &impl Print, k: usize) -> io::Result<()>
 }
 
 fn main(rt: HostRuntime) -> io::Result<()> {
-    let mut k = 0;
-    while k < NETWORKS {
+    for k in 0..NETWORKS {
         run(&rt, k)?;
-        k += 1;
     }
     Ok(())
 }
