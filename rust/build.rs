@@ -24,7 +24,7 @@ fn main() {
     println!("cargo:rustc-link-lib=static=stripplates");
 }
 
-/// The folder that `rt staticlib` writes to; it is run if the archive is not there.
+/// The folder that `tools/archive` writes to; it is run if the archive is not there.
 fn built_folder() -> PathBuf {
     let package = env::var_os("CARGO_MANIFEST_DIR").expect("cargo sets CARGO_MANIFEST_DIR");
     let root = Path::new(&package)
@@ -40,13 +40,8 @@ fn built_folder() -> PathBuf {
 
 /// Proves the library and writes the archive.
 fn build_archive(root: &Path) {
-    let status = Command::new("rt")
-        .args(["staticlib", "stripplates"])
-        .current_dir(root)
+    let status = Command::new(root.join("tools").join("archive"))
         .status()
-        .expect("the command rt is needed to build libstripplates.a, or PLATES_LIB_DIR to find it");
-    assert!(
-        status.success(),
-        "rt staticlib stripplates failed: {status}"
-    );
+        .expect("tools/archive is needed to build libstripplates.a, or PLATES_LIB_DIR to find it");
+    assert!(status.success(), "tools/archive failed: {status}");
 }

@@ -1,0 +1,19 @@
+-- The digits of n are those of n / 10 and one more.
+use Rattle.std.proofs.Common.{arith}
+use Rattle.plates.proofs.ListingText.{decimal_one_long, decimal_more_long, one_written, more_written}
+use Rattle.plates.proofs.listing.+write_decimal.Goals as goal
+
+pub bounds-out-at : goal.bounds-out-at
+bounds-out-at t c = omega (arith, c.requires, decimal_one_long c.args.n c.if-n-lt10.true)
+
+pub returns-then-n-lt10 : goal.returns-then-n-lt10
+returns-then-n-lt10 t c = one_written c.args.n c.args.at c.args.out.now c.if-n-lt10.true (omega (arith, c.requires, decimal_one_long c.args.n c.if-n-lt10.true))
+
+pub write_decimal-behind-requires : goal.write_decimal-behind-requires
+write_decimal-behind-requires t c = (omega (arith, c.decreases, c.if-n-lt10.false), omega (arith, c.requires, decimal_more_long c.args.n c.if-n-lt10.false))
+
+pub bounds-out-behind : goal.bounds-out-behind
+bounds-out-behind t c = omega (arith, c.requires, decimal_more_long c.args.n c.if-n-lt10.false, c.write_decimal-behind.ensures.behind, c.write_decimal-behind.auto.out)
+
+pub returns : goal.returns
+returns t c = more_written c.if-n-lt10.false (omega (arith, c.requires)) (omega (arith, c.requires, decimal_more_long c.args.n c.if-n-lt10.false, c.write_decimal-behind.ensures.behind, c.write_decimal-behind.auto.out)) c.write_decimal-behind.ensures
