@@ -1,45 +1,49 @@
 //! Checks a shape file against a plate list. The arguments: the name of the plate list, the name of the shape file.
 #![tactic(auto)]
 
-use console::{is_unreadable, open_named, say, say_number};
+use console::{open_named, read_named, say, say_number};
 use plates::check_shape;
+use std::io;
+use std::io::Read;
 
-fn show(list: &[u8], shape: &[u8]) {
+fn show(rt: &impl Print, list: &[u8], shape: &[u8]) -> io::Result<()> {
     let verdict = check_shape(list, shape);
     if verdict.number != 0 {
-        say_number(b"refused ", verdict.number as u64);
-        return;
+        return say_number(rt, b"refused ", verdict.number as u64);
     }
-    say(b"sound\n");
-    say_number(b"total ", verdict.total as u64);
-    say_number(b"fewest ", verdict.fewest as u64);
+    say(rt, b"sound\n")?;
+    say_number(rt, b"total ", verdict.total as u64)?;
+    say_number(rt, b"fewest ", verdict.fewest as u64)?;
     if verdict.ours {
-        say(b"ours yes\n");
+        say(rt, b"ours yes\n")
     } else {
-        say(b"ours no\n");
+        say(rt, b"ours no\n")
     }
 }
 
 // Of a longer file only the first 4,096 bytes are read. No accepted list is longer than 745 bytes and no
 // sound shape longer than 611, so such a file is refused, by the number that the whole has (`Files.front`).
-fn check_files(list_file: i32, shape_file: i32) {
-    let mut list = io::buffer();
-    let n = io::read_full(list_file, &mut list);
-    if is_unreadable(list_file, b"plate list") {
-        return;
-    }
-    let mut shape = io::buffer();
-    let k = io::read_full(shape_file, &mut shape);
-    if is_unreadable(shape_file, b"shape file") {
-        return;
-    }
-    show(&list[..n], &shape[..k]);
+fn check_files(
+    rt: &impl Print,
+    list_file: &mut impl Read,
+    shape_file: &mut impl Read,
+) -> io::Result<()> {
+    let mut list = [0u8; 4096];
+    let Some(n) = read_named(rt, list_file, b"plate list", &mut list)? else {
+        return Ok(());
+    };
+    let mut shape = [0u8; 4096];
+    let Some(k) = read_named(rt, shape_file, b"shape file", &mut shape)? else {
+        return Ok(());
+    };
+    show(rt, &list[..n], &shape[..k])
 }
 
-fn main() {
-    let list_file = open_named(1, b"plate list");
-    let shape_file = open_named(2, b"shape file");
-    if list_file >= 0 && shape_file >= 0 {
-        check_files(list_file, shape_file);
-    }
+fn main(rt: HostRuntime) -> io::Result<()> {
+    let list_file = open_named(&rt, 1, b"plate list")?;
+    let shape_file = open_named(&rt, 2, b"shape file")?;
+    let (Some(mut list_file), Some(mut shape_file)) = (list_file, shape_file) else {
+        return Ok(());
+    };
+    check_files(&rt, &mut list_file, &mut shape_file)
 }

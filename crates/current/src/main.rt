@@ -5,7 +5,10 @@ ghost use Rattle.std.specs.Prelude.{◌≡◌};
 ghost use Rattle.current.specs.Numbers.{number_in};
 
 use book::{Answer, current_revision};
-use console::{complain, is_unreadable, open_named, say, say_number};
+use console::{argument, complain, open_named, read_named, say, say_number};
+use std::io;
+use std::io::Read;
+use std::rt::Env;
 
 #[derive(Clone, Copy)]
 enum Model {
@@ -39,40 +42,39 @@ fn read_number(digits: &[u8]) -> Model
     Model::Number(value as u16)
 }
 
-fn show(book: &[u8], model: u16) {
+fn show(rt: &impl Print, book: &[u8], model: u16) -> io::Result<()> {
     let answer = current_revision(book, model);
     match answer {
-        Answer::Refused(number) => say_number(b"refused ", number as u64),
-        Answer::Absent => say(b"absent\n"),
-        Answer::Current(revision) => say_number(b"revision ", revision as u64),
+        Answer::Refused(number) => say_number(rt, b"refused ", number as u64),
+        Answer::Absent => say(rt, b"absent\n"),
+        Answer::Current(revision) => say_number(rt, b"revision ", revision as u64),
     }
 }
 
 // The longest book that is read has 10,922 entries, 65,532 bytes. Of a longer one no answer is given.
-fn show_file(file: i32, model: u16) {
-    let mut book = io::large_buffer();
-    let n = io::read_full(file, &mut book);
-    if is_unreadable(file, b"book") {
-        return;
-    }
+fn show_file(rt: &impl Print, file: &mut impl Read, model: u16) -> io::Result<()> {
+    let mut book = [0u8; 65536];
+    let Some(n) = read_named(rt, file, b"book", &mut book)? else {
+        return Ok(());
+    };
     if n == 65536 {
-        complain(b"book", b": over 65535 bytes", b"");
-        return;
+        return complain(rt, b"book", b": over 65535 bytes", b"");
     }
-    show(&book[..n], model);
+    show(rt, &book[..n], model)
 }
 
-fn main() {
-    let file = open_named(1, b"book");
-    let mut digits = io::buffer();
-    let n = os::arg(2, &mut digits);
-    let model = read_number(&digits[..n]);
-    match model {
-        Model::Number(number) => {
-            if file >= 0 {
-                show_file(file, number);
-            }
-        }
-        Model::NoNumber => complain(b"model", b": no number up to 65535 given", b""),
+// An argument that is not there is no number.
+fn read_model(rt: &impl Env) -> Model {
+    let mut digits = [0u8; 4096];
+    let n = argument(rt, 2, &mut digits).unwrap_or(0);
+    read_number(&digits[..n])
+}
+
+fn main(rt: HostRuntime) -> io::Result<()> {
+    let file = open_named(&rt, 1, b"book")?;
+    match (read_model(&rt), file) {
+        (Model::Number(number), Some(mut file)) => show_file(&rt, &mut file, number),
+        (Model::Number(_), None) => Ok(()),
+        (Model::NoNumber, _) => complain(&rt, b"model", b": no number up to 65535 given", b""),
     }
 }

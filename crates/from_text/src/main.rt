@@ -1,46 +1,49 @@
 //! Writes the shape file of a text. The arguments: the name of the plate list, the name of the text.
 #![tactic(auto)]
 
-use console::{complain, is_unreadable, open_named, say, say_number};
+use console::{complain, open_named, read_named, say, say_number};
+use std::io;
+use std::io::Read;
 use texts::read_text;
 
 // Writes the shape file, by way of `out`.
-fn show(list: &[u8], text: &[u8], out: &mut [u8]) {
+fn show(rt: &impl Print, list: &[u8], text: &[u8], out: &mut [u8]) -> io::Result<()> {
     let written = read_text(list, text, out);
     let long = written.long as usize;
     if written.number != 0 {
-        say_number(b"refused ", written.number as u64);
-        return;
+        return say_number(rt, b"refused ", written.number as u64);
     }
-    say(&out[..long]);
+    say(rt, &out[..long])
 }
 
 // Of a longer list only the first 4,096 bytes are read, which have the number of the whole (`Files.front`). No text
 // of over 66,962 bytes is accepted (`TextShort.accepted`), and of such a one no answer is given. A written
 // shape file has at most 528 bytes, so 16 is never printed.
-fn convert(list_file: i32, text_file: i32) {
-    let mut list = io::buffer();
-    let n = io::read_full(list_file, &mut list);
-    if is_unreadable(list_file, b"plate list") {
-        return;
-    }
+fn convert(
+    rt: &impl Print,
+    list_file: &mut impl Read,
+    text_file: &mut impl Read,
+) -> io::Result<()> {
+    let mut list = [0u8; 4096];
+    let Some(n) = read_named(rt, list_file, b"plate list", &mut list)? else {
+        return Ok(());
+    };
     let mut text = [0u8; 66963];
-    let k = io::read_full(text_file, &mut text);
-    if is_unreadable(text_file, b"text") {
-        return;
-    }
+    let Some(k) = read_named(rt, text_file, b"text", &mut text)? else {
+        return Ok(());
+    };
     if k == 66963 {
-        complain(b"text", b": over 66962 bytes", b"");
-        return;
+        return complain(rt, b"text", b": over 66962 bytes", b"");
     }
     let mut out = [0u8; 528];
-    show(&list[..n], &text[..k], &mut out);
+    show(rt, &list[..n], &text[..k], &mut out)
 }
 
-fn main() {
-    let list_file = open_named(1, b"plate list");
-    let text_file = open_named(2, b"text");
-    if list_file >= 0 && text_file >= 0 {
-        convert(list_file, text_file);
-    }
+fn main(rt: HostRuntime) -> io::Result<()> {
+    let list_file = open_named(&rt, 1, b"plate list")?;
+    let text_file = open_named(&rt, 2, b"text")?;
+    let (Some(mut list_file), Some(mut text_file)) = (list_file, text_file) else {
+        return Ok(());
+    };
+    convert(&rt, &mut list_file, &mut text_file)
 }

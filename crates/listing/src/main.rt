@@ -1,29 +1,30 @@
 //! Reads a plate list from standard input and prints the listing of its shape, or its refusal.
 #![tactic(auto)]
 
-use libc::{STDIN_FILENO, STDOUT_FILENO};
+use console::{read_full, say};
 use plates::write_listing;
+use std::io;
 
 // Prints the listing of a plate list, by way of `text`.
-fn show(list: &[u8], text: &mut [u8]) {
+fn show(rt: &impl Print, list: &[u8], text: &mut [u8]) -> io::Result<()> {
     let listed = write_listing(list, text);
     let long = listed.long;
     if listed.number != 0 {
-        return;
+        return Ok(());
     }
     if text.len() < long {
-        return;
+        return Ok(());
     }
-    io::write_all(STDOUT_FILENO, &text[..long]);
+    say(rt, &text[..long])
 }
 
 // Of longer input only the first 1,024 bytes are read. No accepted list is longer than 745 bytes, so such
 // input is refused, by the number that the whole has (`Files.front`).
 // 8,192 bytes hold every listing: a line for each of 256 darts has at most 27 bytes, and the two in front
 // of them have at most 15 each (a listing has at most 6,939 bytes).
-fn main() {
+fn main(rt: HostRuntime) -> io::Result<()> {
     let mut list = [0u8; 1024];
     let mut text = [0u8; 8192];
-    let n = io::read_full(STDIN_FILENO, &mut list);
-    show(&list[..n], &mut text);
+    let n = read_full(&mut rt.stdin(), &mut list)?;
+    show(&rt, &list[..n], &mut text)
 }

@@ -5,7 +5,7 @@
 ghost use Rattle.std.specs.Prelude.{◌<◌};
 
 use flow::solve::solve;
-use libc::STDOUT_FILENO;
+use std::io;
 
 // 0: the cheap arc takes what it can
 // 1: two ways at one price: the later arcs
@@ -64,22 +64,18 @@ const DEMANDS: [u16; 52] = [
 ];
 
 // Writes an answer on a line.
-fn show(is_solved: bool, x: &[u16]) {
+fn show(rt: &impl Print, is_solved: bool, x: &[u16]) -> io::Result<()> {
     if !is_solved {
-        io::write_all(STDOUT_FILENO, b" no flow\n");
-        return;
+        return println!(rt; " no flow");
     }
-    let mut a = 0;
-    while a < x.len() {
-        io::write_all(STDOUT_FILENO, b" ");
-        io::print_decimal(STDOUT_FILENO, x[a] as u64);
-        a += 1;
+    for units in x {
+        print!(rt; " {units}")?;
     }
-    io::write_all(STDOUT_FILENO, b"\n");
+    rt.write_all(b"\n")
 }
 
 // Solves network k and writes the answer.
-fn run(k: usize)
+fn run(rt: &impl Print, k: usize) -> io::Result<()>
     requires { k < 13 }
 {
     let tails = TAILS;
@@ -104,14 +100,13 @@ fn run(k: usize)
         &demands[node..last],
         &mut x,
     );
-    io::print_decimal(STDOUT_FILENO, k as u64);
-    show(is_solved, &x);
+    print!(rt; "{k}")?;
+    show(rt, is_solved, &x)
 }
 
-fn main() {
-    let mut k = 0;
-    while k < NETWORKS {
-        run(k);
-        k += 1;
+fn main(rt: HostRuntime) -> io::Result<()> {
+    for k in 0..NETWORKS {
+        run(&rt, k)?;
     }
+    Ok(())
 }

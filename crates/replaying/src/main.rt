@@ -6,75 +6,82 @@ ghost use Rattle.std.specs.Prelude.{◌≤◌, length};
 ghost use Rattle.replaying.specs.Replays.{Ready};
 
 use crate::replay::{Outcome, Replay, replay_lines};
-use console::{complain, is_unreadable, open_named, open_to_write, say, say_counted, say_number};
+use console::{complain, open_named, open_to_write, read_named, say, say_counted, say_number};
 use plates::reading::read_list;
 use plates::write_listing;
+use std::io;
+use std::io::{Read, Write};
+use std::rt::{Env, Files};
 
 mod lines;
 mod replay;
 
 // Prints the listing of a plate list, by way of `text`. 8,192 bytes hold every listing (`ListingShort`).
-fn show(list: &[u8], text: &mut [u8]) {
+fn show(rt: &impl Print, list: &[u8], text: &mut [u8]) -> io::Result<()> {
     let listed = write_listing(list, text);
     let long = listed.long;
     if listed.number != 0 {
-        return;
+        return Ok(());
     }
     if text.len() < long {
-        return;
+        return Ok(());
     }
-    say(&text[..long]);
+    say(rt, &text[..long])
 }
 
-fn report(list: &[u8], line: usize, outcome: Outcome) {
+fn report(rt: &impl Print, list: &[u8], line: usize, outcome: Outcome) -> io::Result<()> {
     match outcome {
         Outcome::Through => {
             let mut text = [0u8; 8192];
-            show(list, &mut text);
+            show(rt, list, &mut text)
         }
         Outcome::Refused(number) => {
-            say_counted(b"refused ", number as u64);
-            say_number(b" at line ", line as u64);
+            say_counted(rt, b"refused ", number as u64)?;
+            say_number(rt, b" at line ", line as u64)
         }
         Outcome::Stopped => {
-            say_counted(b"line ", line as u64);
-            say(b": no step\n");
+            say_counted(rt, b"line ", line as u64)?;
+            say(rt, b": no step\n")
         }
     }
 }
 
 // Writes the list to the file that the third argument names, and answers whether it was written.
-fn is_saved(list: &[u8]) -> bool {
-    let file = open_to_write(3, b"file to write");
-    if file < 0 {
-        return false;
-    }
-    let is_written = io::write_all(file, list);
+fn is_saved<R: Print + Env + Files>(rt: &R, list: &[u8]) -> io::Result<bool> {
+    let Some(mut file) = open_to_write(rt, 3, b"file to write")? else {
+        return Ok(false);
+    };
+    let is_written = file.write_all(list).is_ok();
     if !is_written {
-        complain(b"file to write", b": cannot write", b"");
+        complain(rt, b"file to write", b": cannot write", b"")?;
     }
-    is_written
+    Ok(is_written)
 }
 
-fn finish(end: Replay)
+fn finish(rt: &(impl Print + Env + Files), end: Replay) -> io::Result<()>
     requires { Ready end }
 {
     let list = end.list;
     let long = end.long;
     let outcome = end.outcome;
-    if is_saved(&list[..long]) {
-        report(&list[..long], end.line, outcome);
+    if is_saved(rt, &list[..long])? {
+        return report(rt, &list[..long], end.line, outcome);
     }
+    Ok(())
 }
 
 // A list that is refused is told, and nothing is written.
-fn run(list: [u8; 1024], long: usize, journal: &[u8])
+fn run(
+    rt: &(impl Print + Env + Files),
+    list: [u8; 1024],
+    long: usize,
+    journal: &[u8],
+) -> io::Result<()>
     requires { (long ≤ 1024) × (length journal.now ≤ 65535) }
 {
     let read = read_list(&list[..long]);
     if read.number != 0 {
-        say_number(b"refused ", read.number as u64);
-        return;
+        return say_number(rt, b"refused ", read.number as u64);
     }
     let start = Replay {
         list,
@@ -82,32 +89,34 @@ fn run(list: [u8; 1024], long: usize, journal: &[u8])
         line: 0,
         outcome: Outcome::Through,
     };
-    finish(replay_lines(start, journal));
+    finish(rt, replay_lines(start, journal))
 }
 
 // Of a longer list only the first 1,024 bytes are read, which have the number of the whole (`Files.front`).
-fn replay_files(list_file: i32, journal_file: i32) {
+fn replay_files(
+    rt: &(impl Print + Env + Files),
+    list_file: &mut impl Read,
+    journal_file: &mut impl Read,
+) -> io::Result<()> {
     let mut list = [0u8; 1024];
-    let n = io::read_full(list_file, &mut list);
-    if is_unreadable(list_file, b"plate list") {
-        return;
-    }
-    let mut journal = io::large_buffer();
-    let k = io::read_full(journal_file, &mut journal);
-    if is_unreadable(journal_file, b"journal") {
-        return;
-    }
+    let Some(n) = read_named(rt, list_file, b"plate list", &mut list)? else {
+        return Ok(());
+    };
+    let mut journal = [0u8; 65536];
+    let Some(k) = read_named(rt, journal_file, b"journal", &mut journal)? else {
+        return Ok(());
+    };
     if k == 65536 {
-        complain(b"journal", b": over 65535 bytes", b"");
-        return;
+        return complain(rt, b"journal", b": over 65535 bytes", b"");
     }
-    run(list, n, &journal[..k]);
+    run(rt, list, n, &journal[..k])
 }
 
-fn main() {
-    let list_file = open_named(1, b"plate list");
-    let journal_file = open_named(2, b"journal");
-    if list_file >= 0 && journal_file >= 0 {
-        replay_files(list_file, journal_file);
-    }
+fn main(rt: HostRuntime) -> io::Result<()> {
+    let list_file = open_named(&rt, 1, b"plate list")?;
+    let journal_file = open_named(&rt, 2, b"journal")?;
+    let (Some(mut list_file), Some(mut journal_file)) = (list_file, journal_file) else {
+        return Ok(());
+    };
+    replay_files(&rt, &mut list_file, &mut journal_file)
 }

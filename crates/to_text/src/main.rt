@@ -1,41 +1,45 @@
 //! Writes the text of a shape file. The arguments: the name of the plate list, the name of the shape file.
 #![tactic(auto)]
 
-use console::{is_unreadable, open_named, say, say_number};
+use console::{open_named, read_named, say, say_number};
+use std::io;
+use std::io::Read;
 use texts::write_text;
 
 // Writes the text, by way of `out`.
-fn show(list: &[u8], shape: &[u8], out: &mut [u8]) {
+fn show(rt: &impl Print, list: &[u8], shape: &[u8], out: &mut [u8]) -> io::Result<()> {
     let written = write_text(list, shape, out);
     let long = written.long;
     if written.number != 0 {
-        say_number(b"refused ", written.number as u64);
-        return;
+        return say_number(rt, b"refused ", written.number as u64);
     }
-    say(&out[..long]);
+    say(rt, &out[..long])
 }
 
 // Of a longer file only the first 4,096 bytes are read. Such a file is refused, by the number that the whole
 // has (`Files.front`). No text has more than 66,962 bytes (`TextShort.written`), so 16 is never printed.
-fn convert(list_file: i32, shape_file: i32) {
-    let mut list = io::buffer();
-    let n = io::read_full(list_file, &mut list);
-    if is_unreadable(list_file, b"plate list") {
-        return;
-    }
-    let mut shape = io::buffer();
-    let k = io::read_full(shape_file, &mut shape);
-    if is_unreadable(shape_file, b"shape file") {
-        return;
-    }
+fn convert(
+    rt: &impl Print,
+    list_file: &mut impl Read,
+    shape_file: &mut impl Read,
+) -> io::Result<()> {
+    let mut list = [0u8; 4096];
+    let Some(n) = read_named(rt, list_file, b"plate list", &mut list)? else {
+        return Ok(());
+    };
+    let mut shape = [0u8; 4096];
+    let Some(k) = read_named(rt, shape_file, b"shape file", &mut shape)? else {
+        return Ok(());
+    };
     let mut out = [0u8; 66962];
-    show(&list[..n], &shape[..k], &mut out);
+    show(rt, &list[..n], &shape[..k], &mut out)
 }
 
-fn main() {
-    let list_file = open_named(1, b"plate list");
-    let shape_file = open_named(2, b"shape file");
-    if list_file >= 0 && shape_file >= 0 {
-        convert(list_file, shape_file);
-    }
+fn main(rt: HostRuntime) -> io::Result<()> {
+    let list_file = open_named(&rt, 1, b"plate list")?;
+    let shape_file = open_named(&rt, 2, b"shape file")?;
+    let (Some(mut list_file), Some(mut shape_file)) = (list_file, shape_file) else {
+        return Ok(());
+    };
+    convert(&rt, &mut list_file, &mut shape_file)
 }

@@ -1,43 +1,43 @@
 //! Walks short files, with the number of each; puts older ones in order; then writes fields and shows their bytes.
 #![tactic(auto)]
 
-ghost use Rattle.io.specs.Counts.{IsPrefixLen};
+ghost use Rattle.std.specs.Prelude.{◌≡◌, ◌≤◌, length, take};
 
 use fields::ordering::order_fields;
 use fields::writing::write_field;
 use fields::{walk_list, walk_older, walk_shape};
-use libc::STDOUT_FILENO;
+use std::io;
 
 // Writes a line: the file, the case and the number.
-fn show(file: &[u8], label: &[u8], number: u8) {
-    io::write_all(STDOUT_FILENO, file);
-    io::write_all(STDOUT_FILENO, label);
-    io::write_all(STDOUT_FILENO, b": ");
-    io::print_decimal(STDOUT_FILENO, number as u64);
-    io::write_all(STDOUT_FILENO, b"\n");
+fn show(rt: &impl Print, file: &[u8], label: &[u8], number: u8) -> io::Result<()> {
+    rt.write_all(file)?;
+    rt.write_all(label)?;
+    rt.write_all(b": ")?;
+    println!(rt; "{number}")
 }
 
-fn list(label: &[u8], s: &[u8]) {
+fn list(rt: &impl Print, label: &[u8], s: &[u8]) -> io::Result<()> {
     let f = walk_list(s);
-    show(b"list ", label, f.number);
+    show(rt, b"list ", label, f.number)
 }
 
-fn shape(label: &[u8], s: &[u8]) {
+fn shape(rt: &impl Print, label: &[u8], s: &[u8]) -> io::Result<()> {
     let f = walk_shape(s);
-    show(b"shape ", label, f.number);
+    show(rt, b"shape ", label, f.number)
 }
 
 // An older file of either kind, in any order.
-fn older(label: &[u8], s: &[u8], is_shape: bool) {
+fn older(rt: &impl Print, label: &[u8], s: &[u8], is_shape: bool) -> io::Result<()> {
     let f = walk_older(s, is_shape);
-    show(b"older ", label, f.number);
+    show(rt, b"older ", label, f.number)
 }
 
 // Writes a field of `long` zeros where there is room for it, and gives the place behind it.
 fn zeros(out: &mut [u8], at: usize, tag: u8, long: usize) -> usize
-    ensures { IsPrefixLen result out.new }
+    ensures in_bounds { result ≤ length out.new }
+    ensures front { result ≡ length (take result out.new) }
 {
-    let content = io::buffer();
+    let content = [0u8; 4096];
     if long > 4096 {
         return 0;
     }
@@ -50,8 +50,15 @@ fn zeros(out: &mut [u8], at: usize, tag: u8, long: usize) -> usize
     write_field(out, at, tag, &content[..long])
 }
 
-fn long_list(label: &[u8], strips: usize, order: usize, remark: usize, limits: usize) {
-    let mut s = io::buffer();
+fn long_list(
+    rt: &impl Print,
+    label: &[u8],
+    strips: usize,
+    order: usize,
+    remark: usize,
+    limits: usize,
+) -> io::Result<()> {
+    let mut s = [0u8; 4096];
     let mut at = zeros(&mut s, 0, 0x01, 2);
     at = zeros(&mut s, at, 0x02, 1);
     at = zeros(&mut s, at, 0x03, strips);
@@ -59,454 +66,515 @@ fn long_list(label: &[u8], strips: usize, order: usize, remark: usize, limits: u
     at = zeros(&mut s, at, 0x05, 1);
     at = zeros(&mut s, at, 0x06, remark);
     at = zeros(&mut s, at, 0x07, limits);
-    list(label, &s[..at]);
+    list(rt, label, &s[..at])
 }
 
-fn long_shape(label: &[u8], angles: usize, rights: usize, remark: usize) {
-    let mut s = io::buffer();
+fn long_shape(
+    rt: &impl Print,
+    label: &[u8],
+    angles: usize,
+    rights: usize,
+    remark: usize,
+) -> io::Result<()> {
+    let mut s = [0u8; 4096];
     let mut at = zeros(&mut s, 0, 0x11, 2);
     at = zeros(&mut s, at, 0x12, 2);
     at = zeros(&mut s, at, 0x13, angles);
     at = zeros(&mut s, at, 0x14, rights);
     at = zeros(&mut s, at, 0x15, remark);
-    shape(label, &s[..at]);
+    shape(rt, label, &s[..at])
 }
 
 // Where the walk over a list ends.
-fn list_ends() {
+fn list_ends(rt: &impl Print) -> io::Result<()> {
     // No byte ends the walk; every field is absent.
-    list(b"empty", b"");
+    list(rt, b"empty", b"")?;
     // One byte remains.
-    list(b"one byte", b"\x01");
+    list(rt, b"one byte", b"\x01")?;
     // Two bytes remain.
-    list(b"two bytes", b"\x01\x00");
+    list(rt, b"two bytes", b"\x01\x00")?;
     // 1 comes before 2.
-    list(b"other tag, two bytes", b"\x08\x00");
+    list(rt, b"other tag, two bytes", b"\x08\x00")?;
     // Every field but the remark, in tag order; none remains.
     list(
+        rt,
         b"P1",
         b"\x01\x00\x02\x00\x07\x02\x00\x01\x02\x03\x00\x04\x00\x01\x00\x01\x04\x00\x04\x00\x02\x01\x03\x05\x00\x01\x01",
-    );
+    )?;
     // The whole of P1, and one byte remains.
     list(
+        rt,
         b"P1 and one byte",
         b"\x01\x00\x02\x00\x07\x02\x00\x01\x02\x03\x00\x04\x00\x01\x00\x01\x04\x00\x04\x00\x02\x01\x03\x05\x00\x01\x01\x06",
-    );
+    )?;
     // The whole of P1, and two bytes remain.
     list(
+        rt,
         b"P1 and two bytes",
         b"\x01\x00\x02\x00\x07\x02\x00\x01\x02\x03\x00\x04\x00\x01\x00\x01\x04\x00\x04\x00\x02\x01\x03\x05\x00\x01\x01\x06\x00",
-    );
+    )?;
     // 1 in the walk comes before 6 after it.
-    list(b"revision and one byte", b"\x01\x00\x02\x00\x07\x02");
+    list(rt, b"revision and one byte", b"\x01\x00\x02\x00\x07\x02")
 }
 
 // Tags of a list.
-fn list_tags() {
+fn list_tags(rt: &impl Print) -> io::Result<()> {
     // Below the first tag.
-    list(b"tag 00", b"\x00\x00\x00");
+    list(rt, b"tag 00", b"\x00\x00\x00")?;
     // Behind the last tag.
-    list(b"tag 08", b"\x08\x00\x00");
+    list(rt, b"tag 08", b"\x08\x00\x00")?;
     // A tag of the shape file.
-    list(b"tag 11", b"\x11\x00\x02\x00\x07");
+    list(rt, b"tag 11", b"\x11\x00\x02\x00\x07")?;
     // 2 comes before 4 and 5.
-    list(b"tag FF", b"\xff\xff\xff");
+    list(rt, b"tag FF", b"\xff\xff\xff")?;
     // A tag met before.
-    list(b"02 twice", b"\x02\x00\x01\x02\x02\x00\x01\x02");
+    list(rt, b"02 twice", b"\x02\x00\x01\x02\x02\x00\x01\x02")?;
     // 3 comes before 4 and 5.
     list(
+        rt,
         b"02 twice, second too long",
         b"\x02\x00\x01\x02\x02\x00\x09\x02",
-    );
+    )?;
     // Tags ascend.
     list(
+        rt,
         b"reversed",
         b"\x05\x00\x01\x01\x04\x00\x04\x00\x02\x01\x03\x03\x00\x04\x00\x01\x00\x01\x02\x00\x01\x02\x01\x00\x02\x00\x07",
-    );
+    )?;
     // The remark in front of all others: the second field is refused.
     list(
+        rt,
         b"remark first",
         b"\x06\x00\x01\x41\x01\x00\x02\x00\x07\x02\x00\x01\x02\x03\x00\x04\x00\x01\x00\x01\x04\x00\x04\x00\x02\x01\x03\x05\x00\x01\x01",
-    );
+    )
 }
 
 // Lengths of the fields of a list.
-fn list_lengths() {
+fn list_lengths(rt: &impl Print) -> io::Result<()> {
     // The revision has 2 bytes.
-    list(b"01 of 1", b"\x01\x00\x01\x07");
+    list(rt, b"01 of 1", b"\x01\x00\x01\x07")?;
     // The revision has 2 bytes.
-    list(b"01 of 3", b"\x01\x00\x03\x00\x07\x00");
+    list(rt, b"01 of 3", b"\x01\x00\x03\x00\x07\x00")?;
     // The number of posts has 1 byte.
-    list(b"02 of 0", b"\x02\x00\x00");
+    list(rt, b"02 of 0", b"\x02\x00\x00")?;
     // The number of posts has 1 byte.
-    list(b"02 of 2", b"\x02\x00\x02\x02\x02");
+    list(rt, b"02 of 2", b"\x02\x00\x02\x02\x02")?;
     // The outer dart has 1 byte.
-    list(b"05 of 2", b"\x05\x00\x02\x01\x01");
+    list(rt, b"05 of 2", b"\x05\x00\x02\x01\x01")?;
     // The length of the strips is even.
-    list(b"03 of 3", b"\x03\x00\x03\x00\x01\x00");
+    list(rt, b"03 of 3", b"\x03\x00\x03\x00\x01\x00")?;
     // The high byte is first: 256, and 4 comes before 5.
-    list(b"06 of 256", b"\x06\x01\x00");
+    list(rt, b"06 of 256", b"\x06\x01\x00")?;
     // A remark has at most 80 bytes; 4 comes before 5.
-    list(b"06 of 81", b"\x06\x00\x51");
+    list(rt, b"06 of 81", b"\x06\x00\x51")
 }
 
 // Contents that pass the end of a list.
-fn list_passes() {
+fn list_passes(rt: &impl Print) -> io::Result<()> {
     // A length of 80 is as laid out; no content stands there.
-    list(b"06 of 80, none there", b"\x06\x00\x50");
+    list(rt, b"06 of 80, none there", b"\x06\x00\x50")?;
     // The low byte is last: 1.
-    list(b"06 of 1, none there", b"\x06\x00\x01");
+    list(rt, b"06 of 1, none there", b"\x06\x00\x01")?;
     // One byte of two.
-    list(b"01 of 2, one there", b"\x01\x00\x02\x00");
+    list(rt, b"01 of 2, one there", b"\x01\x00\x02\x00")?;
     // The last field alone passes the end.
     list(
+        rt,
         b"last byte of P1 cut",
         b"\x01\x00\x02\x00\x07\x02\x00\x01\x02\x03\x00\x04\x00\x01\x00\x01\x04\x00\x04\x00\x02\x01\x03\x05\x00\x01",
-    );
+    )?;
     // A field that ends where the file ends does not pass it.
-    list(b"01 ends at the end", b"\x01\x00\x02\x00\x07");
+    list(rt, b"01 ends at the end", b"\x01\x00\x02\x00\x07")
 }
 
 // A field of a list is absent.
-fn list_absent() {
+fn list_absent(rt: &impl Print) -> io::Result<()> {
     // The revision is absent.
     list(
+        rt,
         b"no 01",
         b"\x02\x00\x01\x02\x03\x00\x04\x00\x01\x00\x01\x04\x00\x04\x00\x02\x01\x03\x05\x00\x01\x01",
-    );
+    )?;
     // The number of posts is absent.
     list(
+        rt,
         b"no 02",
         b"\x01\x00\x02\x00\x07\x03\x00\x04\x00\x01\x00\x01\x04\x00\x04\x00\x02\x01\x03\x05\x00\x01\x01",
-    );
+    )?;
     // The strips are absent.
     list(
+        rt,
         b"no 03",
         b"\x01\x00\x02\x00\x07\x02\x00\x01\x02\x04\x00\x04\x00\x02\x01\x03\x05\x00\x01\x01",
-    );
+    )?;
     // The order is absent.
     list(
+        rt,
         b"no 04",
         b"\x01\x00\x02\x00\x07\x02\x00\x01\x02\x03\x00\x04\x00\x01\x00\x01\x05\x00\x01\x01",
-    );
+    )?;
     // The outer dart is absent.
     list(
+        rt,
         b"no 05",
         b"\x01\x00\x02\x00\x07\x02\x00\x01\x02\x03\x00\x04\x00\x01\x00\x01\x04\x00\x04\x00\x02\x01\x03",
-    );
+    )
 }
 
 // Fields of no bytes.
-fn list_empty() {
+fn list_empty(rt: &impl Print) -> io::Result<()> {
     // A remark stands for no other field.
     list(
+        rt,
         b"no 05, remark",
         b"\x01\x00\x02\x00\x07\x02\x00\x01\x02\x03\x00\x04\x00\x01\x00\x01\x04\x00\x04\x00\x02\x01\x03\x06\x00\x00",
-    );
+    )?;
     // A remark of no bytes.
     list(
+        rt,
         b"empty remark",
         b"\x01\x00\x02\x00\x07\x02\x00\x01\x02\x03\x00\x04\x00\x01\x00\x01\x04\x00\x04\x00\x02\x01\x03\x05\x00\x01\x01\x06\x00\x00",
-    );
+    )?;
     // No strips is no refusal of the walk.
     list(
+        rt,
         b"empty 03 and 04",
         b"\x01\x00\x02\x00\x07\x02\x00\x01\x02\x03\x00\x00\x04\x00\x00\x05\x00\x01\x01",
-    );
+    )
 }
 
 // A tag below the previous one.
-fn list_below() {
+fn list_below(rt: &impl Print) -> io::Result<()> {
     // 2 comes before 29.
-    list(b"05, then 00", b"\x05\x00\x01\x01\x00\x00\x00");
+    list(rt, b"05, then 00", b"\x05\x00\x01\x01\x00\x00\x00")?;
     // 3 comes before 29.
     list(
+        rt,
         b"02, 05, 02",
         b"\x02\x00\x01\x02\x05\x00\x01\x01\x02\x00\x01\x02",
-    );
+    )?;
     // 29 comes before 4.
-    list(b"05, then 02 of 2", b"\x05\x00\x01\x01\x02\x00\x02\x02\x02");
+    list(
+        rt,
+        b"05, then 02 of 2",
+        b"\x05\x00\x01\x01\x02\x00\x02\x02\x02",
+    )?;
     // 29 comes before 5.
-    list(b"05, then 04 cut", b"\x05\x00\x01\x01\x04\x00\x04\x00");
+    list(rt, b"05, then 04 cut", b"\x05\x00\x01\x01\x04\x00\x04\x00")?;
     // 29 at a field comes before 1 behind it.
     list(
+        rt,
         b"02, 01, one byte",
         b"\x02\x00\x01\x02\x01\x00\x02\x00\x07\x03",
-    );
+    )?;
     // Two neighbours exchanged.
     list(
+        rt,
         b"04, 03",
         b"\x01\x00\x02\x00\x07\x02\x00\x01\x02\x04\x00\x00\x03\x00\x00\x05\x00\x01\x01",
-    );
+    )?;
     // 4 at a field before it counts first.
-    list(b"05 of 2, then 02", b"\x05\x00\x02\x01\x01\x02\x00\x01\x02");
+    list(
+        rt,
+        b"05 of 2, then 02",
+        b"\x05\x00\x02\x01\x01\x02\x00\x01\x02",
+    )
 }
 
 // Two faults in one list: the earlier place counts.
-fn list_two() {
+fn list_two(rt: &impl Print) -> io::Result<()> {
     // A length, then a tag.
-    list(b"4, then 2", b"\x02\x00\x02\x01\x01\x08\x00\x00");
+    list(rt, b"4, then 2", b"\x02\x00\x02\x01\x01\x08\x00\x00")?;
     // A tag, then one byte.
-    list(b"2, then 1", b"\x08\x00\x00\x01");
+    list(rt, b"2, then 1", b"\x08\x00\x00\x01")?;
     // A tag met before, then one byte.
     list(
+        rt,
         b"3, then 1",
         b"\x01\x00\x02\x00\x07\x01\x00\x02\x00\x07\x02",
-    );
+    )?;
     // A length, then a tag met before.
     list(
+        rt,
         b"4, then 3",
         b"\x02\x00\x01\x02\x05\x00\x00\x02\x00\x01\x02",
-    );
+    )?;
     // A tag, then a content that passes the end.
-    list(b"2, then 5", b"\x10\x00\x00\x01\x00\x02\x00");
+    list(rt, b"2, then 5", b"\x10\x00\x00\x01\x00\x02\x00")
 }
 
-// Where the walk over a shape ends, and which field is absent.
-fn shape_ends() {
+// Where the walk over a shape ends.
+fn shape_ends(rt: &impl Print) -> io::Result<()> {
     // No byte ends the walk; every field is absent.
-    shape(b"empty", b"");
+    shape(rt, b"empty", b"")?;
     // One byte remains.
-    shape(b"one byte", b"\x11");
+    shape(rt, b"one byte", b"\x11")?;
     // Two bytes remain.
-    shape(b"two bytes", b"\x11\x00");
+    shape(rt, b"two bytes", b"\x11\x00")?;
     // P1's shape.
     shape(
+        rt,
         b"P1",
         b"\x11\x00\x02\x00\x07\x12\x00\x02\x00\x02\x13\x00\x04\x01\x03\x03\x01\x14\x00\x04\x00\x00\x00\x02",
-    );
+    )?;
     // The whole of P1's shape, and two bytes remain.
     shape(
+        rt,
         b"P1 and two bytes",
         b"\x11\x00\x02\x00\x07\x12\x00\x02\x00\x02\x13\x00\x04\x01\x03\x03\x01\x14\x00\x04\x00\x00\x00\x02\x15\x00",
-    );
+    )
+}
+
+// A field of a shape is absent.
+fn shape_absent(rt: &impl Print) -> io::Result<()> {
     // The revision is absent.
     shape(
+        rt,
         b"no 11",
         b"\x12\x00\x02\x00\x02\x13\x00\x04\x01\x03\x03\x01\x14\x00\x04\x00\x00\x00\x02",
-    );
+    )?;
     // The total is absent.
     shape(
+        rt,
         b"no 12",
         b"\x11\x00\x02\x00\x07\x13\x00\x04\x01\x03\x03\x01\x14\x00\x04\x00\x00\x00\x02",
-    );
+    )?;
     // The angles are absent; a remark stands for no other field.
     shape(
+        rt,
         b"no 13, remark",
         b"\x11\x00\x02\x00\x07\x12\x00\x02\x00\x02\x14\x00\x04\x00\x00\x00\x02\x15\x00\x00",
-    );
+    )?;
     // The right bends are absent.
     shape(
+        rt,
         b"no 14",
         b"\x11\x00\x02\x00\x07\x12\x00\x02\x00\x02\x13\x00\x04\x01\x03\x03\x01",
-    );
+    )
 }
 
 // Tags of a shape, and contents that pass its end.
-fn shape_tags() {
+fn shape_tags(rt: &impl Print) -> io::Result<()> {
     // Below the first tag.
-    shape(b"tag 10", b"\x10\x00\x00");
+    shape(rt, b"tag 10", b"\x10\x00\x00")?;
     // Behind the last tag.
-    shape(b"tag 16", b"\x16\x00\x00");
+    shape(rt, b"tag 16", b"\x16\x00\x00")?;
     // A tag of the plate list.
-    shape(b"tag 01", b"\x01\x00\x02\x00\x07");
+    shape(rt, b"tag 01", b"\x01\x00\x02\x00\x07")?;
     // A tag met before.
     shape(
+        rt,
         b"13 twice",
         b"\x13\x00\x04\x01\x03\x03\x01\x13\x00\x04\x01\x03\x03\x01",
-    );
+    )?;
     // 3 comes before 4.
     shape(
+        rt,
         b"11 twice, second too short",
         b"\x11\x00\x02\x00\x07\x11\x00\x01\x07",
-    );
+    )?;
     // Tags ascend.
     shape(
+        rt,
         b"reversed",
         b"\x15\x00\x01\x41\x14\x00\x04\x00\x00\x00\x02\x13\x00\x04\x01\x03\x03\x01\x12\x00\x02\x00\x02\x11\x00\x02\x00\x07",
-    );
+    )?;
     // One byte of the last content is missing.
     shape(
+        rt,
         b"14 of 4, three there",
         b"\x11\x00\x02\x00\x07\x12\x00\x02\x00\x02\x13\x00\x04\x01\x03\x03\x01\x14\x00\x04\x00\x00\x00",
-    );
+    )
 }
 
 // Lengths of the fields of a shape, and two faults in one.
-fn shape_lengths() {
+fn shape_lengths(rt: &impl Print) -> io::Result<()> {
     // The revision has 2 bytes.
-    shape(b"11 of 1", b"\x11\x00\x01\x07");
+    shape(rt, b"11 of 1", b"\x11\x00\x01\x07")?;
     // The total has 2 bytes.
-    shape(b"12 of 3", b"\x12\x00\x03\x00\x00\x02");
+    shape(rt, b"12 of 3", b"\x12\x00\x03\x00\x00\x02")?;
     // Angles have at most 256 bytes; 4 comes before 5.
-    shape(b"13 of 257", b"\x13\x01\x01");
+    shape(rt, b"13 of 257", b"\x13\x01\x01")?;
     // A length of 256 is as laid out.
-    shape(b"14 of 256, none there", b"\x14\x01\x00");
+    shape(rt, b"14 of 256, none there", b"\x14\x01\x00")?;
     // A remark has at most 80 bytes.
-    shape(b"15 of 81", b"\x15\x00\x51");
+    shape(rt, b"15 of 81", b"\x15\x00\x51")?;
     // Only the length of the strips is even; the other fields are absent.
-    shape(b"13 of 3", b"\x13\x00\x03\x01\x01\x02");
+    shape(rt, b"13 of 3", b"\x13\x00\x03\x01\x01\x02")?;
     // A tag, then a content that passes the end.
-    shape(b"2, then 5", b"\x16\x00\x00\x11\x00\x02\x00");
+    shape(rt, b"2, then 5", b"\x16\x00\x00\x11\x00\x02\x00")?;
     // A length, then a tag.
-    shape(b"4, then 2", b"\x12\x00\x01\x02\x16\x00\x00");
+    shape(rt, b"4, then 2", b"\x12\x00\x01\x02\x16\x00\x00")?;
     // A tag met before, then one byte.
     shape(
+        rt,
         b"3, then 1",
         b"\x12\x00\x02\x00\x02\x12\x00\x02\x00\x02\x11",
-    );
+    )
 }
 
 // Limits of a list: contents of zeros, of these lengths for strips, order, remark and limits of bends.
-fn long_lists() {
+fn long_lists(rt: &impl Print) -> io::Result<()> {
     // The longest list, 745 bytes.
-    long_list(b"256 256 80 128", 256, 256, 80, 128);
+    long_list(rt, b"256 256 80 128", 256, 256, 80, 128)?;
     // A remark of 81 bytes.
-    long_list(b"256 256 81 128", 256, 256, 81, 128);
+    long_list(rt, b"256 256 81 128", 256, 256, 81, 128)?;
     // Strips of odd length.
-    long_list(b"257 256 80 128", 257, 256, 80, 128);
+    long_list(rt, b"257 256 80 128", 257, 256, 80, 128)?;
     // Strips over 256 bytes.
-    long_list(b"258 256 80 128", 258, 256, 80, 128);
+    long_list(rt, b"258 256 80 128", 258, 256, 80, 128)?;
     // An order over 256 bytes.
-    long_list(b"256 257 80 128", 256, 257, 80, 128);
+    long_list(rt, b"256 257 80 128", 256, 257, 80, 128)?;
     // An order of odd length.
-    long_list(b"256 255 80 128", 256, 255, 80, 128);
+    long_list(rt, b"256 255 80 128", 256, 255, 80, 128)?;
     // Limits of 129 bytes.
-    long_list(b"256 256 80 129", 256, 256, 80, 129);
+    long_list(rt, b"256 256 80 129", 256, 256, 80, 129)
 }
 
 // Limits of a shape: contents of zeros, of these lengths for angles, right bends and remark.
-fn long_shapes() {
+fn long_shapes(rt: &impl Print) -> io::Result<()> {
     // The longest shape, 611 bytes.
-    long_shape(b"256 256 80", 256, 256, 80);
+    long_shape(rt, b"256 256 80", 256, 256, 80)?;
     // A remark of 81 bytes.
-    long_shape(b"256 256 81", 256, 256, 81);
+    long_shape(rt, b"256 256 81", 256, 256, 81)?;
     // Angles over 256 bytes.
-    long_shape(b"257 256 80", 257, 256, 80);
+    long_shape(rt, b"257 256 80", 257, 256, 80)?;
     // Right bends over 256 bytes.
-    long_shape(b"256 258 80", 256, 258, 80);
+    long_shape(rt, b"256 258 80", 256, 258, 80)?;
     // Angles of odd length.
-    long_shape(b"255 256 80", 255, 256, 80);
+    long_shape(rt, b"255 256 80", 255, 256, 80)
 }
 
 // Older files: the walk in any order.
-fn older_files() {
+fn older_files(rt: &impl Print) -> io::Result<()> {
     older(
+        rt,
         b"list reversed",
         b"\x05\x00\x01\x01\x04\x00\x04\x00\x02\x01\x03\x03\x00\x04\x00\x01\x00\x01\x02\x00\x01\x02\x01\x00\x02\x00\x07",
         false,
-    );
+    )?;
     older(
+        rt,
         b"shape reversed",
         b"\x15\x00\x01\x41\x14\x00\x04\x00\x00\x00\x02\x13\x00\x04\x01\x03\x03\x01\x12\x00\x02\x00\x02\x11\x00\x02\x00\x07",
         true,
-    );
+    )
+}
+
+// Older files with a fault.
+fn older_faults(rt: &impl Print) -> io::Result<()> {
     // Every other number is as before: 2, 3, 4, 5, 1.
-    older(b"05, then 00", b"\x05\x00\x01\x01\x00\x00\x00", false);
+    older(rt, b"05, then 00", b"\x05\x00\x01\x01\x00\x00\x00", false)?;
     older(
+        rt,
         b"02, 05, 02",
         b"\x02\x00\x01\x02\x05\x00\x01\x01\x02\x00\x01\x02",
         false,
-    );
+    )?;
     older(
+        rt,
         b"05, then 02 of 2",
         b"\x05\x00\x01\x01\x02\x00\x02\x02\x02",
         false,
-    );
+    )?;
     older(
+        rt,
         b"05, then 04 cut",
         b"\x05\x00\x01\x01\x04\x00\x04\x00",
         false,
-    );
+    )?;
     older(
+        rt,
         b"02, 01, one byte",
         b"\x02\x00\x01\x02\x01\x00\x02\x00\x07\x03",
         false,
-    );
-    older(b"empty", b"", false);
+    )?;
+    older(rt, b"empty", b"", false)
 }
 
 // Writes bytes on a line, in hexadecimal.
-fn show_bytes(s: &[u8]) {
-    let mut i = 0;
-    while i < s.len() {
+fn show_bytes(rt: &impl Print, s: &[u8]) -> io::Result<()> {
+    for (i, byte) in s.iter().enumerate() {
         if i > 0 {
-            io::write_all(STDOUT_FILENO, b" ");
+            rt.write_all(b" ")?;
         }
-        io::print_hex(STDOUT_FILENO, s[i] as u64, 2);
-        i += 1;
+        print!(rt; "{byte:02x}")?;
     }
-    io::write_all(STDOUT_FILENO, b"\n");
+    rt.write_all(b"\n")
 }
 
 // Puts an older file in order, and shows the number and the bytes of the memory lent.
-fn order_into(label: &[u8], s: &[u8], out: &mut [u8]) {
+fn order_into(rt: &impl Print, label: &[u8], s: &[u8], out: &mut [u8]) -> io::Result<()> {
     let ordered = order_fields(s, out);
-    show(b"order ", label, ordered.number);
-    show_bytes(out);
+    show(rt, b"order ", label, ordered.number)?;
+    show_bytes(rt, out)
 }
 
 // Files put in order; a refusal changes no byte.
-fn ordered_files() {
+fn ordered_files(rt: &impl Print) -> io::Result<()> {
     let mut some = [0xeeu8; 30];
     // The remark is kept.
     order_into(
+        rt,
         b"list reversed, with remark",
         b"\x06\x00\x00\x05\x00\x01\x01\x04\x00\x04\x00\x02\x01\x03\x03\x00\x04\x00\x01\x00\x01\x02\x00\x01\x02\x01\x00\x02\x00\x07",
         &mut some,
-    );
+    )?;
     let mut other = [0xeeu8; 24];
     order_into(
+        rt,
         b"shape, 14 and 12 exchanged",
         b"\x11\x00\x02\x00\x07\x14\x00\x02\x00\x00\x13\x00\x02\x04\x04\x12\x00\x02\x00\x00",
         &mut other,
-    );
+    )?;
     let mut few = [0xeeu8; 2];
     // 16 comes last, and measures.
     order_into(
+        rt,
         b"too short",
         b"\x05\x00\x01\x00\x04\x00\x00\x03\x00\x00\x02\x00\x01\x02\x01\x00\x02\x00\x07",
         &mut few,
-    );
+    )?;
     // A first byte of 10 hexadecimal means a shape file, of which it is no tag; 0F a plate list.
-    order_into(b"10", b"\x10\x00\x00", &mut few);
-    order_into(b"0F, cut", b"\x0f\x00", &mut few);
-    order_into(b"empty", b"", &mut few);
+    order_into(rt, b"10", b"\x10\x00\x00", &mut few)?;
+    order_into(rt, b"0F, cut", b"\x0f\x00", &mut few)?;
+    order_into(rt, b"empty", b"", &mut few)
 }
 
 // Two fields, one behind the other; the bytes before and behind them stay.
-fn written() {
+fn written(rt: &impl Print) -> io::Result<()> {
     let mut out = [0xffu8; 12];
     let next = write_field(&mut out, 1, 0x15, b"ab");
     write_field(&mut out, next, 0x06, b"");
-    show_bytes(&out);
+    show_bytes(rt, &out)
 }
 
 // A length of 258: high byte 1, low byte 2.
-fn long_written() {
-    let mut out = io::buffer();
+fn long_written(rt: &impl Print) -> io::Result<()> {
+    let mut out = [0u8; 4096];
     out[0] = 0xff;
     zeros(&mut out, 1, 0x14, 258);
-    let few = io::count(6, &out);
-    show_bytes(&out[..few]);
+    show_bytes(rt, &out[..6])
 }
 
-fn main() {
-    list_ends();
-    list_tags();
-    list_lengths();
-    list_passes();
-    list_absent();
-    list_empty();
-    list_below();
-    list_two();
-    shape_ends();
-    shape_tags();
-    shape_lengths();
-    long_lists();
-    long_shapes();
-    older_files();
-    ordered_files();
-    written();
-    long_written();
+fn main(rt: HostRuntime) -> io::Result<()> {
+    list_ends(&rt)?;
+    list_tags(&rt)?;
+    list_lengths(&rt)?;
+    list_passes(&rt)?;
+    list_absent(&rt)?;
+    list_empty(&rt)?;
+    list_below(&rt)?;
+    list_two(&rt)?;
+    shape_ends(&rt)?;
+    shape_absent(&rt)?;
+    shape_tags(&rt)?;
+    shape_lengths(&rt)?;
+    long_lists(&rt)?;
+    long_shapes(&rt)?;
+    older_files(&rt)?;
+    older_faults(&rt)?;
+    ordered_files(&rt)?;
+    written(&rt)?;
+    long_written(&rt)
 }
