@@ -113,5 +113,9 @@ old_walk isShape s = walk_by false isShape s
 abbrev pub two : ℕ → List ℕ
 two v = v / 256 ∷ (v % 256 ∷ [])
 
+-- and in four
+abbrev pub four : ℕ → List ℕ
+four v = two (v / 65536) ++ two (v % 65536)
+
 abbrev pub field : ℕ → List ℕ → List ℕ
 field t c = t ∷ (two (length c) ++ c)

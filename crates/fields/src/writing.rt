@@ -1,6 +1,6 @@
 //! Fields written into lent memory.
 ghost use Rattle.std.specs.Prelude.{◌≡◌, ◌+◌, ◌<◌, ◌≤◌, length};
-ghost use Rattle.fields.specs.Files.{two, field};
+ghost use Rattle.fields.specs.Files.{two, four, field};
 ghost use Rattle.fields.specs.Writing.{put_at, Written};
 
 // A number in two bytes, high byte first.
@@ -9,6 +9,15 @@ pub fn two_bytes(v: usize) -> [u8; 2]
     ensures { result ≡ two v }
 {
     [(v / 256) as u8, (v % 256) as u8]
+}
+
+// A number in four bytes, high byte first.
+pub fn four_bytes(v: u32) -> [u8; 4]
+    ensures { result ≡ four v }
+{
+    let high = two_bytes((v / 65536) as usize);
+    let low = two_bytes((v % 65536) as usize);
+    [high[0], high[1], low[0], low[1]]
 }
 
 // Copies `content` into `out` from `at` on.

@@ -1,4 +1,5 @@
--- A best shape's right bends fit a byte each and their total two, whatever the prices: taking off what goes round a cycle leaves a flow, and the best has nothing to take off.
+-- A best shape's right bends fit a byte each and their total two, and no strip bends both ways, whatever the prices: taking off what goes round a cycle, or along a strip both ways, leaves a flow,
+-- and the best has nothing to take off.
 use mathlib.Core.Path.{◌≡◌, ap}
 use mathlib.Core.Bool.{true}
 use mathlib.Core.List.{List, ◌++◌}
@@ -24,6 +25,7 @@ use Rattle.shapes.proofs.Flows.{is_flow_flow, parted_flow}
 use Rattle.shapes.proofs.SoundNetwork.{network_sound}
 use Rattle.shapes.proofs.Tamassia.{shape_flow, flow_shape}
 use Rattle.shapes.proofs.Bytes.{unit_most, total_fits}
+use Rattle.shapes.proofs.Straight.{both, straightened, less, straight_flow}
 use Rattle.shapes.proofs.Strips.{price_at, Within, StripWithin}
 use Rattle.shapes.proofs.RatedShapes.{rights_count, shape_price, shape_within, counts_price, counts_keep}
 
@@ -47,6 +49,28 @@ module _ (p : Plate) (f : Faultless p) (o : Ordered p) (r : Rates) (fair : Fair 
   xs_long : length xs ≡ darts p
   xs_long = rights_count p o r s best.meets_all
 
+  -- a flow with no more bends on any dart has as many
+  module _ (ds ys : List ℕ) (flow : is_flow p ds ys ≡ true) (no_more : (d : ℕ) → d < darts p → get_or ys d 0 ≤ get_or xs d 0) where
+    left_within : (d : ℕ) → d < darts p → StripWithin r.limits ys d
+    left_within d l =
+        fewer_within (get_or r.limits (d / 2) 255) (get_or xs d 0 + get_or xs (twin d) 0) (get_or ys d 0 + get_or ys (twin d) 0) (omega (arith, no_more d l, no_more (twin d) (twin_dart p o d l)))
+        (shape_within p o r s best.meets_all best.keeps_all d l)
+
+    no_dearer : (d : ℕ) → d < darts p → price_at r.prices d * get_or ys d 0 ≤ price_at r.prices d * get_or xs d 0
+    no_dearer d l = mul-le-mul_left (price_at r.prices d) (no_more d l)
+
+    as_many : (d : ℕ) → d < darts p → get_or ys d 0 ≡ get_or xs d 0
+    as_many d l =
+        price_same (price_at r.prices d) (get_or xs d 0) (get_or ys d 0) (fair.some_price (d / 2)) (no_more d l)
+        (sum_tight (darts p) (λ d. price_at r.prices d * get_or ys d 0) (λ d. price_at r.prices d * get_or xs d 0) no_dearer
+        (omega (
+          arith,
+          best.cheapest (shape_of p ds ys) (flow_shape p o ds ys flow) (counts_keep p o r ds ys flow left_within),
+          shape_price p o r s best.meets_all,
+          counts_price p o r ds ys flow,
+          sum_le (darts p) (λ d. price_at r.prices d * get_or ys d 0) (λ d. price_at r.prices d * get_or xs d 0) no_dearer,
+        )) d l)
+
   trimmed : Trimmed (network_of p) (xs ++ cs)
   trimmed = trim (network_of p) (network_sound p f o) (xs ++ cs) (is_flow_flow p o xs cs (shape_flow p o s best.meets_all))
 
@@ -62,25 +86,8 @@ module _ (p : Plate) (f : Faultless p) (o : Ordered p) (r : Rates) (fair : Fair 
   no_more : (d : ℕ) → d < darts p → get_or ys d 0 ≤ get_or xs d 0
   no_more d l = omega (arith, get_or-take (darts p) trimmed.flow d 0 l, trimmed.below d, get_d_first xs cs (darts p) xs_long d l)
 
-  left_within : (d : ℕ) → d < darts p → StripWithin r.limits ys d
-  left_within d l =
-      fewer_within (get_or r.limits (d / 2) 255) (get_or xs d 0 + get_or xs (twin d) 0) (get_or ys d 0 + get_or ys (twin d) 0) (omega (arith, no_more d l, no_more (twin d) (twin_dart p o d l)))
-      (shape_within p o r s best.meets_all best.keeps_all d l)
-
-  no_dearer : (d : ℕ) → d < darts p → price_at r.prices d * get_or ys d 0 ≤ price_at r.prices d * get_or xs d 0
-  no_dearer d l = mul-le-mul_left (price_at r.prices d) (no_more d l)
-
   nothing_taken : (d : ℕ) → d < darts p → get_or ys d 0 ≡ get_or xs d 0
-  nothing_taken d l =
-      price_same (price_at r.prices d) (get_or xs d 0) (get_or ys d 0) (fair.some_price (d / 2)) (no_more d l)
-      (sum_tight (darts p) (λ d. price_at r.prices d * get_or ys d 0) (λ d. price_at r.prices d * get_or xs d 0) no_dearer
-      (omega (
-        arith,
-        best.cheapest (shape_of p ds ys) (flow_shape p o ds ys left_flow) (counts_keep p o r ds ys left_flow left_within),
-        shape_price p o r s best.meets_all,
-        counts_price p o r ds ys left_flow,
-        sum_le (darts p) (λ d. price_at r.prices d * get_or ys d 0) (λ d. price_at r.prices d * get_or xs d 0) no_dearer,
-      )) d l)
+  nothing_taken = as_many ds ys left_flow no_more
 
   pub best_near : (d : ℕ) → d < darts p → get_or (rights_of s.words) d 0 ≤ excess (network_of p)
   best_near d l =
@@ -91,3 +98,8 @@ module _ (p : Plate) (f : Faultless p) (o : Ordered p) (r : Rates) (fair : Fair 
 
   pub best_total : total (rights_of s.words) < 65536
   best_total = total_fits p f o xs xs_long best_near
+
+  pub best_one_way : (d : ℕ) → d < darts p → both p o xs d ≡ 0
+  best_one_way d l =
+      let straight = straightened p o xs in
+      omega (arith, less p o xs d l, as_many cs straight (straight_flow p o xs cs (shape_flow p o s best.meets_all)) (λ e m. omega (arith, less p o xs e m)) d l)

@@ -77,6 +77,23 @@ module _ (ls : List ℕ) where
 
 -- where limits are none
 module _ (ls : List ℕ) (free : all_free ls ≡ true) {p : Plate} {s : Shape} where
+  -- by whatever prices
+  pub free_by : {ps : List ℕ} → BestBy p (rates ls ps) s → BestBy p (rates [] ps) s
+  free_by b = record {
+    meets_all = b.meets_all;
+    keeps_all = free_within [] (strip_bends s) refl;
+    cheapest = λ u m k. b.cheapest u m (free_within ls (strip_bends u) free);
+    first = λ u m k. b.first u m (free_within ls (strip_bends u) free);
+  }
+
+  pub by_free : {ps : List ℕ} → BestBy p (rates [] ps) s → BestBy p (rates ls ps) s
+  by_free b = record {
+    meets_all = b.meets_all;
+    keeps_all = free_within ls (strip_bends s) free;
+    cheapest = λ u m k. b.cheapest u m (free_within [] (strip_bends u) refl);
+    first = λ u m k. b.first u m (free_within [] (strip_bends u) refl);
+  }
+
   pub free_best : BestWithin p ls s → Best p s
   free_best b = record { meets_all = b.meets_all; fewest = λ u m. b.fewest u m (free_within ls (strip_bends u) free); first = λ u m. b.first u m (free_within ls (strip_bends u) free) }
 
@@ -92,7 +109,7 @@ module _ {p : Plate} {s : Shape} where
   by_best b = free_best [] refl (within_by [] b)
 
 -- the bends of a strip are the right and the left bends in the word of its even dart
-strip_word : (p : Plate) (s : Shape) → meets p s ≡ true → (i : ℕ) → i + i < darts p → get_or (strip_bends s) i 0 ≡ rights (nth_w s.words (i + i)) + lefts (nth_w s.words (i + i))
+pub strip_word : (p : Plate) (s : Shape) → meets p s ≡ true → (i : ℕ) → i + i < darts p → get_or (strip_bends s) i 0 ≡ rights (nth_w s.words (i + i)) + lefts (nth_w s.words (i + i))
 strip_word p s m i l =
     let t : twin (i + i) ≡ suc (i + i) = twin_even (i + i) (omega arith) in
     omega (
@@ -103,6 +120,9 @@ strip_word p s m i l =
       ap (λ (k : ℕ). get_or (rights_of s.words) k 0) t,
     )
 
+pub strips_long : (p : Plate) (s : Shape) → meets p s ≡ true → (n : ℕ) → n + n ≡ darts p → length (strip_bends s) ≡ n
+strips_long p s m n e = sums_long n (rights_of s.words) (rights_long s.words ∙ (meets_facts p s m).words_long ∙ sym e)
+
 -- so limits are kept exactly where the word of each of the n strips keeps its own
 pub each_strip : (p : Plate) (s : Shape) → meets p s ≡ true → (n : ℕ) → n + n ≡ darts p → (ls : List ℕ)
     → (all_within ls (strip_bends s) ≡ true) ↔ ((i : ℕ) → i < n → Within (get_or ls i 255) (rights (nth_w s.words (i + i)) + lefts (nth_w s.words (i + i))))
@@ -112,7 +132,7 @@ each_strip p s m n e ls = (
 )
   where
     long : length (strip_bends s) ≡ n
-    long = sums_long n (rights_of s.words) (rights_long s.words ∙ (meets_facts p s m).words_long ∙ sym e)
+    long = strips_long p s m n e
 
 -- counts that are a flow of document 01's network are one here, with each corner on its two arcs; where it is the least they are the best shape's
 module _ (p : Plate) (o : Ordered p) (cs xs : List ℕ) (e : is_flow p cs xs ≡ true) where
