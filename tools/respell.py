@@ -13,6 +13,11 @@ import sys
 
 # Lemmas that have the name of a definition, each in its files.
 LEMMAS = {
+    "bytes_of": ("fields/proofs/Sorted.antt", "plates/proofs/SoundBytes.antt"),
+    "part_of": ("texts/proofs/PrintLaws.antt",),
+    "run_of": ("fields/proofs/Runs.antt",),
+    "word_at": ("texts/proofs/",),
+    "word_of": ("texts/proofs/EntryRead.antt",),
     "all_there": ("fields/proofs/", "plates/proofs/", "texts/proofs/"),
     "front_of": ("texts/proofs/Called.antt",),
     "go_on": ("replaying/proofs/Forms.antt",),

@@ -33,9 +33,9 @@ pub data Run (o k : Bool) : List Field → List ℕ → List Field → Type 0 wh
 
 module _ {o k : Bool} where
   -- from a walk without refusal
-  run_of : (l : ℕ) (fs : List Field) (s : List ℕ) → length s < l → (fields_by o l k fs s).number ≡ 0 → (more : List Field) × Run o k fs s more × (all_there k (add_all fs more) ≡ true)
-  run_of zero fs s h e = absurd (omega arith)
-  run_of (suc l) fs s h e = go (eqb (length s) 0) refl (eqb (fault_by o k fs s) 0) refl (run_of l (add_field fs (field_at s)) (drop (3 + head_long s) s))
+  run_of_lem : (l : ℕ) (fs : List Field) (s : List ℕ) → length s < l → (fields_by o l k fs s).number ≡ 0 → (more : List Field) × Run o k fs s more × (all_there k (add_all fs more) ≡ true)
+  run_of_lem zero fs s h e = absurd (omega arith)
+  run_of_lem (suc l) fs s h e = go (eqb (length s) 0) refl (eqb (fault_by o k fs s) 0) refl (run_of_lem l (add_field fs (field_at s)) (drop (3 + head_long s) s))
     where
       go : (a : Bool) → eqb (length s) 0 ≡ a → (b : Bool) → eqb (fault_by o k fs s) 0 ≡ b
           → (length (drop (3 + head_long s) s) < l → (fields_by o l k (add_field fs (field_at s)) (drop (3 + head_long s) s)).number ≡ 0
@@ -75,7 +75,7 @@ run_answer o k s more r a =
 
 pub whole_of : (o k : Bool) (s : List ℕ) → (walk_by o k s).number ≡ 0 → Whole o k s
 whole_of o k s e =
-    let (more, r, a) = run_of {o = o} {k = k} (suc (length s)) [] s (omega arith) e in
+    let (more, r, a) = run_of_lem {o = o} {k = k} (suc (length s)) [] s (omega arith) e in
     let there : all_there k more ≡ true = rw (all_append [] more) at a in
     record { more = more; run = r; there = there; answer = run_answer o k s more r there }
 

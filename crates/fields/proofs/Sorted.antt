@@ -156,15 +156,15 @@ module _ (k : Bool) (s : List ℕ) where
     fields_rise = subst (λ (fs : List Field). ascends 0 fs ≡ true) (sym (fields_of true w)) (run_ascends [] s w.more w.run)
 
     -- the bytes of a file in order are those of its fields, sorted
-    pub bytes_of : all_bytes s ≡ true → bytes_in (sorted k (walk_all k s).fields) ≡ s
-    bytes_of b =
+    pub bytes_of_lem : all_bytes s ≡ true → bytes_in (sorted k (walk_all k s).fields) ≡ s
+    bytes_of_lem b =
         ap bytes_in (sorted_fixed k (walk_all k s).fields (all_tags true k s) fields_rise ∙ fields_of true w) ∙ run_bytes [] s w.more w.run b
 
     pub stays : all_bytes s ≡ true → (is_shape_file s ≡ k) × (ordered_bytes s ≡ s)
     stays b =
         let i : is_shape_file s ≡ k = kind_of true k s e in
         let f : (old_walk k s).fields ≡ (walk_all k s).fields = ap (λ (v : Walk). v.fields) (sym taken_same) in
-        (i, ap (λ (j : Bool). bytes_in (sorted j (old_walk j s).fields)) i ∙ ap (λ (fs : List Field). bytes_in (sorted k fs)) f ∙ bytes_of b)
+        (i, ap (λ (j : Bool). bytes_in (sorted j (old_walk j s).fields)) i ∙ ap (λ (fs : List Field). bytes_in (sorted k fs)) f ∙ bytes_of_lem b)
 
   just_ascending : ((walk_all k s).number ≡ 0) ↔ (((old_walk k s).number ≡ 0) × (ascends 0 (old_walk k s).fields ≡ true))
   just_ascending = (to, from)
@@ -220,9 +220,9 @@ older_taken s e =
 
 one_file : (k : Bool) (s t : List ℕ) → all_bytes s ≡ true → all_bytes t ≡ true → (walk_all k s).number ≡ 0 → (walk_all k t).number ≡ 0 → SameFields (walk_all k s).fields (walk_all k t).fields → s ≡ t
 one_file k s t a b e g f =
-    sym (bytes_of k s e a)
+    sym (bytes_of_lem k s e a)
     ∙ ap bytes_in (rising_same 7 (first_tag k) (walk_all k s).fields (walk_all k t).fields (λ u l. f.there u) (λ u l. f.content u))
-    ∙ bytes_of k t g b
+    ∙ bytes_of_lem k t g b
 
 same_out : (s t : List ℕ) → is_shape_file s ≡ is_shape_file t → SameFields (old_walk (is_shape_file s) s).fields (old_walk (is_shape_file t) t).fields → ordered_bytes s ≡ ordered_bytes t
 same_out s t i f =

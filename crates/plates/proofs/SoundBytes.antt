@@ -13,7 +13,7 @@ use Rattle.fields.proofs.FrontField.{met_field}
 use Rattle.fields.proofs.Laid.{all_laid, all_tags}
 use Rattle.fields.proofs.Runs.{all_there_lem}
 use Rattle.fields.proofs.Rising.{rising_there, rising_absent}
-use Rattle.fields.proofs.Sorted.{bytes_of}
+use Rattle.fields.proofs.Sorted.{bytes_of_lem}
 use Rattle.shapes.proofs.Accepted.{ordered}
 use Rattle.plates.specs.Shapes.{total}
 use Rattle.plates.specs.Files.{Field, has_tag, content_of, walk_all, list_fault, plate_of, two, field, file_bytes}
@@ -77,7 +77,7 @@ module _ (t : List ℕ) (bytes : all_bytes t ≡ true) (e : (walk_all true t).nu
   row v n = field 17 v ++ (field 18 n ++ (field 19 (angles_in t) ++ (field 20 (rights_in t) ++ remark_in t)))
 
   row_is : row (content_of 17 fs) (content_of 18 fs) ≡ t
-  row_is = sym (ap bytes_in in_order) ∙ bytes_of true t e bytes
+  row_is = sym (ap bytes_in in_order) ∙ bytes_of_lem true t e bytes
 
   two_long_17 : length (content_of 17 fs) ≡ 2
   two_long_17 = eqb-true (length (content_of 17 fs)) 2 (all_laid true true t 17 has_17)

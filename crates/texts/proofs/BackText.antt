@@ -21,7 +21,7 @@ use Rattle.plates.specs.Text.{Entry, all_formed, formed, text_of}
 use Rattle.plates.specs.Grammar.{entries_in}
 use Rattle.plates.specs.Lines.{face_entries, face_text, sequence, is_mixed, word_of, angle_of, words_by, angles_by, both_ways}
 use Rattle.texts.proofs.Grammar.{exact}
-use Rattle.texts.proofs.Refill.{darts_of, refill_cong, refill_same, refill_own, same_darts, word_unmixed, angle_range, angles_long, words_long, angle_at, word_at, plan_filled}
+use Rattle.texts.proofs.Refill.{darts_of, refill_cong, refill_same, refill_own, same_darts, word_unmixed, angle_range, angles_long, words_long, angle_at, word_at_lem, plan_filled}
 use Rattle.texts.proofs.Around.{around, plan_darts, all-distinct, all-below, all_there_lem}
 use Rattle.texts.proofs.OneWay.{word_one, ways_none}
 use Rattle.texts.proofs.Placed.{Told}
@@ -60,7 +60,7 @@ module _ (p : Plate) (acc : Accepted p) (t : List ℕ) (told : Told p t) where
   entries_are =
       plan_filled p a ws
       ∙ sym (refill_same (nth_w ws) (λ d. get_or a d 0) es plan told.same-faces)
-      ∙ refill_cong (nth_w ws) (λ d. word_of d es) (λ d. get_or a d 0) (λ d. angle_of d es) es (λ d h. (word_at (darts p) d es (below d h), angle_at (darts p) d es (below d h)))
+      ∙ refill_cong (nth_w ws) (λ d. word_of d es) (λ d. get_or a d 0) (λ d. angle_of d es) es (λ d h. (word_at_lem (darts p) d es (below d h), angle_at (darts p) d es (below d h)))
       ∙ refill_own es (ap distinct es_darts ∙ all-distinct p o (outer_below p acc))
 
   pub text_again : face_text p a ws ≡ t
@@ -89,7 +89,7 @@ module _ (p : Plate) (acc : Accepted p) (t : List ℕ) (told : Told p t) where
 
     read_straight : (d : ℕ) → d < darts p → min (get_or (rights_of ws) d 0) (get_or (rights_of ws) (twin d) 0) ≡ 0
     read_straight d l =
-        let one = word_one (nth_w ws d) (ap is_mixed (word_at (darts p) d es l) ∙ word_unmixed d es told.unmixed) in
+        let one = word_one (nth_w ws d) (ap is_mixed (word_at_lem (darts p) d es l) ∙ word_unmixed d es told.unmixed) in
         omega (arith, one, rights_at ws d, lefts_at (darts p) ws twinned d l)
 
     pub read_one_way : both_ways (rights_of ws) ≡ false

@@ -66,9 +66,9 @@ bends_of : (xs : List ℕ) → ((i : ℕ) → i < length xs → is_bend (get_or 
 bends_of [] h = refl
 bends_of (x ∷ xs) h = cc (bend_of x (h 0 (omega arith)), bends_of xs (λ i l. h (suc i) (omega arith)))
 
-word_of : (xs : List ℕ) → 0 < length xs → ((i : ℕ) → i < length xs → is_bend (get_or xs i 0) ≡ true) → word_text (bends xs) ≡ xs
-word_of [] l h = absurd (omega arith)
-word_of (x ∷ xs) l h = bends_of (x ∷ xs) h
+word_of_lem : (xs : List ℕ) → 0 < length xs → ((i : ℕ) → i < length xs → is_bend (get_or xs i 0) ≡ true) → word_text (bends xs) ≡ xs
+word_of_lem [] l h = absurd (omega arith)
+word_of_lem (x ∷ xs) l h = bends_of (x ∷ xs) h
 
 pub bends_long : (xs : List ℕ) → length (bends xs) ≡ length xs
 bends_long [] = refl
@@ -110,7 +110,7 @@ module _ (s : List ℕ) (ok : word_ok s ≡ true) where
       let run : m ≡ run_of is_bend s = ap (λ (b : Bool). pick b 1 (run_of is_bend s)) e in
       let long : length (take (run_of is_bend s) s) ≡ run_of is_bend s = length-take-le (run_of is_bend s) s (run_most is_bend s) in (
         ap (λ (k : ℕ). take k s) run
-            ∙ sym (word_of (take (run_of is_bend s) s) (omega (arith, word_some)) (λ i l. let j : i < run_of is_bend s = omega arith in ap is_bend (get_or-take (run_of is_bend s) s i 0 j) ∙ run_in is_bend s i j)),
+            ∙ sym (word_of_lem (take (run_of is_bend s) s) (omega (arith, word_some)) (λ i l. let j : i < run_of is_bend s = omega arith in ap is_bend (get_or-take (run_of is_bend s) s i 0 j) ∙ run_in is_bend s i j)),
         omega (arith, bends_long (take (run_of is_bend s) s), word_most),
       )
 

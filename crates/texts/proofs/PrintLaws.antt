@@ -125,17 +125,17 @@ module _ (a r o : List ℕ) (e : List Bool) where
       ∙ text_append (count_entries a r (laid i o e)) (entry (get_or o i 0) (count_word r (get_or o i 0)) (get_or a (get_or o i 0) 0) (get_or e i false) ∷ [])
       ∙ ap (λ (l : List ℕ). up_to i ++ l) (append-nil (entry_at i))
 
-  part_of : (n m : ℕ) → length (up_to n) ≤ length (up_to (n + m))
-  part_of n zero = omega (arith, ap (λ (k : ℕ). length (up_to k)) (add-zero n))
-  part_of n (suc m) =
+  part_of_lem : (n m : ℕ) → length (up_to n) ≤ length (up_to (n + m))
+  part_of_lem n zero = omega (arith, ap (λ (k : ℕ). length (up_to k)) (add-zero n))
+  part_of_lem n (suc m) =
       let q : n + suc m ≡ suc (n + m) = omega arith in
-      omega (arith, part_of n m, ap (λ (k : ℕ). length (up_to k)) q, ap length (one_more (n + m)), length-append (up_to (n + m)) (entry_at (n + m)))
+      omega (arith, part_of_lem n m, ap (λ (k : ℕ). length (up_to k)) q, ap length (one_more (n + m)), length-append (up_to (n + m)) (entry_at (n + m)))
 
   room_for : (i n : ℕ) → i < n → length (up_to i) + length (entry_at i) ≤ length (up_to n)
   room_for i n l =
       let m = n - suc i in
       let q : suc i + m ≡ n = omega arith in
-      omega (arith, part_of (suc i) m, ap (λ (k : ℕ). length (up_to k)) q, ap length (one_more i), length-append (up_to i) (entry_at i))
+      omega (arith, part_of_lem (suc i) m, ap (λ (k : ℕ). length (up_to k)) q, ap length (one_more i), length-append (up_to i) (entry_at i))
 
 -- the entries of the first i places are written
 pub record Printing (a r o : List ℕ) (e : List Bool) (out₀ out : List ℕ) (at i : ℕ) : Type 0 where

@@ -32,7 +32,7 @@ use Rattle.texts.specs.Reads.{counted_fault}
 use Rattle.texts.specs.declared.planning.Laid.{Laid}
 use Rattle.texts.specs.declared.parsing.Parsed.{Parsed}
 use Rattle.texts.proofs.Grammar.{exact}
-use Rattle.texts.proofs.Refill.{word_fits, angles_long, words_long, angle_at, word_at}
+use Rattle.texts.proofs.Refill.{word_fits, angles_long, words_long, angle_at, word_at_lem}
 use Rattle.texts.proofs.Around.{around, plan_darts, all-distinct, all-below}
 use Rattle.texts.proofs.OneWay.{word-long}
 use Rattle.texts.proofs.Placed.{Told}
@@ -115,7 +115,7 @@ module _ (p : Plate) (ls t : List ℕ) where
       rights_taken =
           let long : length (take n cr) ≡ n = length-take-le n cr (omega (arith, tables.rights.size, few)) in
           ext_get_or 0 (take n cr) (rights_of ws) (long ∙ n-is ∙ sym (rights_long ws ∙ words_long (darts p) 0 es))
-          (λ i l. get_or-take n cr i 0 (omega (arith, long)) ∙ tables.rights.at i (omega (arith, long, few)) ∙ ap rights (sym (word_at (darts p) i es (omega (arith, long)))) ∙ sym (rights_at ws i))
+          (λ i l. get_or-take n cr i 0 (omega (arith, long)) ∙ tables.rights.at i (omega (arith, long, few)) ∙ ap rights (sym (word_at_lem (darts p) i es (omega (arith, long)))) ∙ sym (rights_at ws i))
 
       twins_are : twin_counts n 0 cr cl ≡ twins
       twins_are =

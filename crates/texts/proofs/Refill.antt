@@ -154,8 +154,8 @@ words-from (suc n) d (suc i) es l = words-from n (suc d) i es (omega arith) ∙ 
 pub angle_at : (n d : ℕ) (es : List Entry) → d < n → get_or (angles_by n 0 es) d 0 ≡ angle_of d es
 angle_at n d es l = angles_from n 0 d es l ∙ ap (λ (x : ℕ). angle_of x es) (zero-add d)
 
-pub word_at : (n d : ℕ) (es : List Entry) → d < n → nth_w (words_by n 0 es) d ≡ word_of d es
-word_at n d es l = words-from n 0 d es l ∙ ap (λ (x : ℕ). word_of x es) (zero-add d)
+pub word_at_lem : (n d : ℕ) (es : List Entry) → d < n → nth_w (words_by n 0 es) d ≡ word_of d es
+word_at_lem n d es l = words-from n 0 d es l ∙ ap (λ (x : ℕ). word_of x es) (zero-add d)
 
 -- the entries of a plate are its plan filled
 line_filled : (a : List ℕ) (ws : List (List Bool)) (ds : List ℕ) → line a ws ds ≡ refill (nth_w ws) (λ d. get_or a d 0) (line [] [] ds)

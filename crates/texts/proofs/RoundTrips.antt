@@ -30,7 +30,7 @@ use Rattle.plates.specs.Remarks.{NoRemark}
 use Rattle.plates.specs.Texts.{remark_in, file_text, angles_read, words_read, placed_fault, text_fault, bytes_read, CameBack, WentBack, RoundTrips, TextShort}
 use Rattle.texts.proofs.OneWay.{one_way, ways_none, word-long}
 use Rattle.texts.proofs.Grammar.{exact}
-use Rattle.texts.proofs.Refill.{word_fits, word_at, words_long}
+use Rattle.texts.proofs.Refill.{word_fits, word_at_lem, words_long}
 use Rattle.texts.proofs.TextShort.{text_most}
 use Rattle.texts.proofs.Placed.{Placed, fault_placed, placed-fault}
 use Rattle.texts.proofs.TextBack.{text_placed, angles_come, words_come}
@@ -158,7 +158,7 @@ module _ (s t : List ℕ) (none : text_fault s t ≡ 0) where
             omega (
               arith,
               rights_at (words_read s t) d,
-              ap rights (word_at (darts p₂) d es (omega (arith, many))),
+              ap rights (word_at_lem (darts p₂) d es (omega (arith, many))),
               word-long (word_of d es),
               word_fits d es (and_left (all_formed es) _ all),
             )),

@@ -20,7 +20,7 @@ use Rattle.plates.specs.Text.{Entry, entry, entry_formed, formed}
 use Rattle.plates.specs.Grammar.{form_ok, entries_in}
 use Rattle.plates.specs.Lines.{face_entries, face_text, same_faces, some_mixed, word_of, angle_of, words_by, angles_by}
 use Rattle.texts.proofs.Grammar.{exact}
-use Rattle.texts.proofs.Refill.{darts_of, refill, word_found, angle_found, same_refill, refill_closed, refill_formed, refill_unmixed, angles_long, words_long, angle_at, word_at, plan_filled}
+use Rattle.texts.proofs.Refill.{darts_of, refill, word_found, angle_found, same_refill, refill_closed, refill_formed, refill_unmixed, angles_long, words_long, angle_at, word_at_lem, plan_filled}
 use Rattle.texts.proofs.Around.{plan_darts, all_there_lem, all-below, plan_closed}
 use Rattle.texts.proofs.OneWay.{one_word, word-long}
 use Rattle.texts.proofs.Placed.{Placed}
@@ -95,7 +95,7 @@ module _ (p : Plate) (acc : Accepted p) (a : List ℕ) (ws : List (List Bool)) (
   words_again : words_by (darts p) 0 es ≡ ws
   words_again = words_ext (words_by (darts p) 0 es) ws (words_long (darts p) 0 es ∙ sym facts.words_long)
       (λ d l. let k : d < darts p = omega (arith, words_long (darts p) 0 es) in
-      word_at (darts p) d es k ∙ ap (λ (x : List Entry). word_of d x) is_filled ∙ word_found F A d plan (there d k))
+      word_at_lem (darts p) d es k ∙ ap (λ (x : List Entry). word_of d x) is_filled ∙ word_found F A d plan (there d k))
 
   -- the text is read as these entries
   abbrev t : List ℕ

@@ -17,7 +17,7 @@ use Rattle.plates.specs.Text.{Entry}
 use Rattle.plates.specs.Lines.{is_mixed, some_mixed, word_of, words_by}
 use Rattle.texts.specs.Parses.{twin_counts, Tables}
 use Rattle.texts.proofs.OneWay.{word_one}
-use Rattle.texts.proofs.Refill.{word_at, word_unmixed}
+use Rattle.texts.proofs.Refill.{word_at_lem, word_unmixed}
 
 rights_over : (w : List Bool) → rights (turned_over w []) ≡ lefts w
 rights_over w = omega (arith, rights_turned w [])
@@ -64,8 +64,8 @@ module _ (n : ℕ) (even : n % 2 ≡ 0) (few : n ≤ 256) (es : List Entry) (unm
       let ld = tables.lefts.at d (omega arith) in
       let lt = tables.lefts.at (twin d) (omega arith) in
       let rd = tables.rights.at d (omega arith) in
-      let wt = word_at n (twin d) es t in
-      let wd = word_at n d es k in
+      let wt = word_at_lem n (twin d) es t in
+      let wd = word_at_lem n d es k in
       (λ i. eqb (rt i) (ld i) && eqb (lt i) (rd i))
       ∙ sym (counts_test (word_of (twin d) es) (word_of d es) (word_unmixed (twin d) es unmixed) (word_unmixed d es unmixed))
       ∙ sym (λ i. same_word (wt i) (turned_over (wd i) []))
