@@ -74,7 +74,7 @@ def table(root):
             if steps[0] == "Rattle" and len(steps) > 1 and steps[1] in own:
                 continue
             for it in (items or "").split(","):
-                lent.update(it.split(" as ")[:1] and [it.split(" as ")[0].strip()])
+                lent.add(it.split(" as ")[0].strip())
         if p.endswith(".rt"):
             source.update(SOURCE.findall(text))
             source.update(FIELD.findall(text))
@@ -141,7 +141,7 @@ def turn_antt(text, rows):
         code, dash, note = line.partition("--")
         if line.lstrip().startswith("--") or dash and (code.endswith(" ") or not code):
             note = turn_spans(note, rows)
-            note = re.sub(WORD, lambda m: rows.get(m.group(), m.group()) if re.search(r"[a-z][A-Z]|-\w", m.group()) and m.group() in rows and re.search("[a-z][A-Z]", m.group()) else m.group(), note)
+            note = re.sub(WORD, lambda m: rows.get(m.group(), m.group()) if re.search("[a-z][A-Z]", m.group()) else m.group(), note)
             out.append(turn_words(code, rows) + dash + note)
         else:
             out.append(turn_words(line, rows))
