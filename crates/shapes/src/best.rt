@@ -134,5 +134,12 @@ pub fn best(q: Plate) -> BestShape
     requires { Standing q }
     ensures { (p : PlateOf) → Stands q p → Accepted p → BestHeld p result }
 {
-    best_by(q, StripRates { limits: b"", prices: b"" }).unwrap()
+    best_by(
+        q,
+        StripRates {
+            limits: b"",
+            prices: b"",
+        },
+    )
+    .unwrap()
 }

@@ -46,7 +46,10 @@ fn post_angles(ends: &[u8], angles: &[u8]) -> [u32; 64]
     requires { Keys 64 ends.now × (length angles.now ≤ 256) }
     ensures { Table 64 (post_angles ends.now angles.now) result }
 {
-    group_sum(angles.len(), |d| (key_of(ends, 64, twin_of(d)), u32::from(angles[d])))
+    group_sum(
+        angles.len(),
+        |d| (key_of(ends, 64, twin_of(d)), u32::from(angles[d])),
+    )
 }
 
 // Right bends and 2 for each dart of a face.
@@ -54,7 +57,10 @@ fn face_plus(face: &[u8], rights: &[u8]) -> [u32; 66]
     requires { Keys 66 face.now × (length rights.now ≤ 256) }
     ensures { Table 66 (face_plus face.now rights.now) result }
 {
-    group_sum(rights.len(), |d| (key_of(face, 66, d), u32::from(rights[d]) + 2))
+    group_sum(
+        rights.len(),
+        |d| (key_of(face, 66, d), u32::from(rights[d]) + 2),
+    )
 }
 
 // Left bends, which are the twin's right bends, and the angle of each dart of a face.
@@ -65,7 +71,10 @@ fn face_minus(face: &[u8], counts: Counts) -> [u32; 66]
     let Counts { angles, rights } = counts;
     group_sum(
         angles.len(),
-        |d| (key_of(face, 66, d), u32::from(rights[twin_of(d)]) + u32::from(angles[d])),
+        |d| (
+            key_of(face, 66, d),
+            u32::from(rights[twin_of(d)]) + u32::from(angles[d]),
+        ),
     )
 }
 

@@ -17,8 +17,8 @@ loop-d-preserved g c =
     let r = c.at-k.result in
     let small = c.requires.small l.d r (omega arith) c.at-k.ensures in (
       λ key number told.
-        let given = told l.d r (omega arith) c.at-k.ensures in
-        adding_more (l.invariant.0 key number told) (omega arith) given.0 small.0 (omega (arith, given.1)),
+          let given = told l.d r (omega arith) c.at-k.ensures in
+          adding_more (l.invariant.0 key number told) (omega arith) given.0 small.0 (omega (arith, given.1)),
       few_more l.sums l.d r.0 r.1 l.invariant.1 small.1,
     )
 
