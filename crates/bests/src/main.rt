@@ -5,16 +5,15 @@ ghost use Rattle.std.specs.Prelude.{◌≡◌, ◌%◌, ◌≤◌, length};
 
 use embedding::read_plate;
 use shapes::best::{BestShape, best, best_by};
+use shapes::counts::Counts;
 use shapes::judge::judge;
-use shapes::rates::prices_ok;
+use shapes::rates::{StripRates, prices_ok};
 use std::io;
 
 // Writes numbers behind a word.
-fn show_counts(rt: &impl Print, word: &[u8], darts: usize, counts: [u8; 256]) -> io::Result<()>
-    requires { darts ≤ 256 }
-{
+fn show_counts(rt: &impl Print, word: &[u8], counts: &[u8]) -> io::Result<()> {
     rt.write_all(word)?;
-    for count in &counts[..darts] {
+    for count in counts {
         print!(rt; " {count}")?;
     }
     Ok(())
@@ -22,13 +21,12 @@ fn show_counts(rt: &impl Print, word: &[u8], darts: usize, counts: [u8; 256]) ->
 
 // Writes the bends, the right bends and the angles by dart, and ends the line.
 fn show_shape(rt: &impl Print, darts: usize, s: BestShape) -> io::Result<()>
-    requires { darts ≤ 256 }
+    requires { (darts ≤ 256) × (darts % 2 ≡ 0) }
 {
-    let rights = s.rights;
-    let angles = s.angles;
+    let counts = s.counts(darts);
     print!(rt; " bends {}", s.total)?;
-    show_counts(rt, b" rights", darts, rights)?;
-    show_counts(rt, b" angles", darts, angles)?;
+    show_counts(rt, b" rights", counts.rights)?;
+    show_counts(rt, b" angles", counts.angles)?;
     rt.write_all(b"\n")
 }
 
@@ -59,8 +57,7 @@ fn show_by(
     ends: &[u8],
     order: &[u8],
     outer: u8,
-    limits: &[u8],
-    prices: &[u8],
+    by: StripRates,
 ) -> io::Result<()>
     requires { (length ends.now ≤ 256) × (length ends.now % 2 ≡ 0) × (length order.now ≤ 256) }
 {
@@ -69,14 +66,13 @@ fn show_by(
     if r.number != 0 {
         return println!(rt; " refused");
     }
-    if !prices_ok(prices) {
+    if !prices_ok(by.prices) {
         return println!(rt; " prices refused");
     }
-    let a = best_by(r.plate, limits, prices);
-    if !a.found {
-        return println!(rt; " no shape");
+    match best_by(r.plate, by) {
+        Some(shape) => show_shape(rt, ends.len(), shape),
+        None => println!(rt; " no shape"),
     }
-    show_shape(rt, ends.len(), a.shape)
 }
 
 // P1 within limits and by prices.
@@ -88,8 +84,7 @@ fn p1_by(rt: &impl Print, label: &[u8], limits: &[u8], prices: &[u8]) -> io::Res
         b"\x00\x01\x00\x01",
         b"\x00\x02\x01\x03",
         1,
-        limits,
-        prices,
+        StripRates { limits, prices },
     )
 }
 
@@ -101,8 +96,7 @@ fn p7_by(rt: &impl Print, label: &[u8], limits: &[u8], prices: &[u8]) -> io::Res
         b"\x00\x01\x00\x01\x00\x01",
         b"\x00\x02\x04\x05\x03\x01",
         1,
-        limits,
-        prices,
+        StripRates { limits, prices },
     )
 }
 
@@ -137,7 +131,10 @@ fn verdict(rt: &impl Print, label: &[u8], angles: &[u8], rights: &[u8]) -> io::R
     if rights.len() != r.plate.darts {
         return Ok(());
     }
-    println!(rt; " {}", judge(r.plate, angles, rights))
+    match judge(r.plate, Counts { angles, rights }) {
+        Ok(()) => println!(rt; " 0"),
+        Err(refusal) => println!(rt; " {}", refusal.number()),
+    }
 }
 
 fn shapes_to_try(rt: &impl Print) -> io::Result<()> {

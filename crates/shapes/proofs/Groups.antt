@@ -1,7 +1,7 @@
 -- Sums by a key, filled into an array a number at a time: each turn adds to the one place that its key names.
 use mathlib.Core.Path.{◌≡◌, refl, sym, ap, subst, ◌∙◌}
 use mathlib.Core.Bool.{Bool}
-use mathlib.Core.List.{List}
+use mathlib.Core.List.{List, [], ◌∷◌}
 use Prim.Native.Nat.{ℕ, zero, suc, ◌+◌, ◌*◌, ◌≤◌, ◌<◌}
 use native.Mathlib.Nat.{suc-mul}
 use native.Mathlib.Numerals.{add-one}
@@ -28,8 +28,25 @@ pub record Adding (m n : ℕ) (key g : ℕ → ℕ) (d : ℕ) (sums : List ℕ) 
   pub so_far : Table m (group_sum d key g) sums
   pub within : d ≤ n
 
+-- `at` gives each number below n this key and this value
+abbrev pub Gives : ℕ → (ℕ → ℕ × ℕ → Type 0) → (ℕ → ℕ) → (ℕ → ℕ) → Type 0
+Gives n at key g = (d : ℕ) (r : ℕ × ℕ) → d < n → at d r → (r.0 ≡ key d) × (r.1 ≡ g d)
+
 pub adding_start : {m n : ℕ} {key g : ℕ → ℕ} → Adding m n key g 0 (replicate m 0)
 adding_start {m} {n} {key} {g} = record { so_far = record { size = length-replicate m 0; at = λ i l. get_or-replicate m i 0 0 l }; within = omega arith }
+
+-- each sum of d numbers of at most 512
+pub few_start : (m k : ℕ) → get_or (replicate m 0) k 0 ≤ 0 * 512
+few_start zero k = omega arith
+few_start (suc m) zero = omega arith
+few_start (suc m) (suc k) = few_start m k
+
+pub few_more : (sums : List ℕ) (d k w : ℕ) → ((i : ℕ) → get_or sums i 0 ≤ d * 512) → w ≤ 512 → (i : ℕ) → get_or (set sums k (get_or sums k 0 + w)) i 0 ≤ (d + 1) * 512
+few_more [] d k w h few i = omega (arith, h i)
+few_more (s ∷ sums) d zero w h few zero = omega (arith, h zero)
+few_more (s ∷ sums) d zero w h few (suc i) = omega (arith, h (suc i))
+few_more (s ∷ sums) d (suc k) w h few zero = omega (arith, h zero)
+few_more (s ∷ sums) d (suc k) w h few (suc i) = few_more sums d k w (λ j. h (suc j)) few i
 
 module _ {m n : ℕ} {key g : ℕ → ℕ} {d : ℕ} {sums : List ℕ} (h : Adding m n key g d sums) where
   -- each is small while there are few numbers

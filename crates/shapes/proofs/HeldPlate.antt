@@ -16,7 +16,8 @@ use Rattle.embedding.specs.declared.Plate.{Plate as Held}
 use Rattle.embedding.proofs.Rotation.{twin_dart, leaves_below}
 use Rattle.embedding.proofs.Degrees.{darts_most, darts_few}
 use Rattle.shapes.specs.Claims.{Accepted}
-use Rattle.shapes.specs.Judge.{Keys, Counts}
+use Rattle.shapes.specs.Judge.{Keys}
+use Rattle.shapes.specs.Counted.{Counted}
 use Rattle.shapes.proofs.Accepted.{faultless, ordered}
 use Rattle.shapes.proofs.Places.{index_below}
 
@@ -62,6 +63,6 @@ module _ {q : Held} {p : Plate} (s : Stands q p) (a : Accepted p) where
   pub few_angles : (al : List ℕ) → length al ≡ q.darts → length al ≤ 256
   few_angles al long = omega (arith, s.dart_count, few_darts)
 
-  pub counts_are : (al rs : List ℕ) → length al ≡ q.darts → length rs ≡ q.darts → Counts al rs
+  pub counts_are : (al rs : List ℕ) → length al ≡ q.darts → length rs ≡ q.darts → Counted al rs
   counts_are al rs al_long rs-long =
       record { same_length = omega arith; even_length = ap (λ (k : ℕ). k % 2) (al_long ∙ s.dart_count) ∙ a.even_darts; most = few_angles al al_long }

@@ -48,6 +48,7 @@ pub mod Demands
 pub mod Turns
 pub mod Tried
 pub mod Groups
+pub mod Chains
 pub mod Upward
 pub mod RangeFront
 pub mod StripLoops

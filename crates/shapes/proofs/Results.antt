@@ -16,15 +16,16 @@ use Rattle.shapes.specs.Shapes.{Shape, meets, rights_of, total, shape_of}
 use Rattle.shapes.specs.Claims.{Accepted, Best}
 use Rattle.shapes.specs.Rates.{Rates, unrated, Fair, pair_sums, keeps, BestBy, NoShape}
 use Rattle.shapes.specs.NetworkOf.{network_of, rated_of}
-use Rattle.shapes.specs.BestOf.{ShapeHeld, BestHeld, Blank, Answers, Small, Taken, right_bends, angles_held}
+use Rattle.shapes.specs.BestOf.{ShapeHeld, BestHeld, Answers, Small, Taken, right_bends, angles_held}
 use Rattle.shapes.specs.declared.best.BestShape.{BestShape}
-use Rattle.shapes.specs.declared.best.BestAnswer.{BestAnswer}
+use Rattle.std.specs.Prelude.{Option, Some, None}
 use Rattle.shapes.proofs.Arcs.{at_bend}
 use Rattle.shapes.proofs.FlowFacts.{IsFlow, is_flow_facts}
 use Rattle.shapes.proofs.RatedFlows.{rated_arcs, flow_plain, bends_long, corners_long, parted}
 use Rattle.shapes.proofs.RatedSound.{excess_same}
 use Rattle.shapes.proofs.RatedOrder.{one_best_by}
 use Rattle.shapes.proofs.RatedBest.{some_meets}
+use Rattle.shapes.proofs.Halves.{front_is}
 use Rattle.shapes.proofs.Bytes.{unit_most, total_fits}
 use Rattle.shapes.proofs.Unpriced.{by_best}
 use Rattle.shapes.proofs.OneBest.{one_best}
@@ -44,12 +45,6 @@ module _ (p : Plate) (a : Accepted p) (r : Rates) (fair : Fair r) where
   pub unsolved : {n : Network} (x : List ℕ) → n ≡ rated_of p r → (b : Bool) → b ≡ false → Either b (BestFlow n x) (NoFlow n) → NoShape p r
   unsolved {n} x e true t h = absurd (not_both refl t)
   unsolved {n} x e false t h = cut_no_shape p a r fair (subst (λ (k : Network). NoFlow k) e h)
-
--- an array that a list fills as far as it goes begins with the list
-front_is : (ys xs : List ℕ) (m : ℕ) → length ys ≡ m → m ≤ 256 → Table 256 (λ i. get_or ys i 0) xs → take m xs ≡ ys
-front_is ys xs m e l t =
-    let long : length (take m xs) ≡ m = length-take-le m xs (omega (arith, t.size)) in
-    ext_get_or 0 (take m xs) ys (long ∙ sym e) (λ i k. get_or-take m xs i 0 (omega arith) ∙ t.at i (omega arith))
 
 module _ (p : Plate) (a : Accepted p) (r : Rates) (fair : Fair r) (x : List ℕ) (b : BestFlow (rated_of p r) x) where
   few : darts p ≤ 256
@@ -113,12 +108,9 @@ module _ (p : Plate) (a : Accepted p) (r : Rates) (fair : Fair r) (x : List ℕ)
   shape_held m e s t = flow_held s (subst (λ (k : ℕ). Taken k x s) e t)
 
 -- where some shape keeps the limits the best one is found
-pub found_if : (p : Plate) (r : Rates) (b : BestAnswer) → Answers p r b → (u : Shape) → meets p u ≡ true → keeps r u ≡ true → (b.found ≡ true) × ShapeHeld p (BestBy p r) b.shape
-found_if p r b h u m k = go b.found h
-  where
-    go : (f : Bool) → Either f (ShapeHeld p (BestBy p r) b.shape) (NoShape p r × Blank b.shape) → (f ≡ true) × ShapeHeld p (BestBy p r) b.shape
-    go true s = (refl, s)
-    go false s = absurd (s.0 u m k)
+pub found_if : (p : Plate) (r : Rates) (o : Option BestShape) → Answers p r o → (u : Shape) → meets p u ≡ true → keeps r u ≡ true → (s : BestShape) × (o ≡ Some s) × ShapeHeld p (BestBy p r) s
+found_if p r (Some s) h u m k = (s, refl, h)
+found_if p r None h u m k = absurd (h u m k)
 
 -- a shape that is so is such, too
 held_map : (p : Plate) (So Such : Shape → Type 0) → ((s : Shape) → So s → Such s) → (r : BestShape) → ShapeHeld p So r → ShapeHeld p Such r
@@ -135,11 +127,12 @@ held_map p So Such f r h = record {
   angle_range = h.angle_range;
 }
 
--- without limits and prices it is the best shape
-pub found_best : (p : Plate) → Accepted p → (b : BestAnswer) → Answers p unrated b → BestHeld p b.shape
-found_best p a b h =
-    let (u, m, k) = some_meets p (faultless p a) (ordered p a) [] in
-    held_map p (BestBy p unrated) (Best p) (λ s best. by_best best) b.shape (found_if p unrated b h u m k).1
+-- without limits and prices there is one, and it is the best shape
+pub found_some : (p : Plate) → Accepted p → (o : Option BestShape) → Answers p unrated o → (s : BestShape) × (o ≡ Some s) × ShapeHeld p (BestBy p unrated) s
+found_some p a o h = let (u, m, k) = some_meets p (faultless p a) (ordered p a) [] in found_if p unrated o h u m k
+
+pub found_best : (p : Plate) (s : BestShape) → Answers p unrated (Some s) → BestHeld p s
+found_best p s h = held_map p (BestBy p unrated) (Best p) (λ s best. by_best best) s h
 
 -- there is one such shape, and one way to hold it
 module _ (p : Plate) (So : Shape → Type 0) (one : (s u : Shape) → So s → So u → s ≡ u) (r s : BestShape) (h : ShapeHeld p So r) (k : ShapeHeld p So s) where
@@ -162,19 +155,9 @@ module _ (p : Plate) (So : Shape → Type 0) (one : (s u : Shape) → So s → S
 pub held_only : (p : Plate) (r s : BestShape) → BestHeld p r → BestHeld p s → r ≡ s
 held_only p r s h k = shape_only p (Best p) (one_best p) r s h k
 
-blank_only : (r s : BestShape) → Blank r → Blank s → r ≡ s
-blank_only r s h k = λ i. record {
-  angles = table_only 256 (λ j. 0) r.angles s.angles h.no_angles k.no_angles i;
-  rights = table_only 256 (λ j. 0) r.rights s.rights h.no_rights k.no_rights i;
-  total = (h.no_total ∙ sym k.no_total) i;
-}
-
 -- one answer
-pub answer_only : (p : Plate) (r : Rates) (a b : BestAnswer) → Answers p r a → Answers p r b → a ≡ b
-answer_only p r a b h k = go a.found b.found a.shape b.shape h k
-  where
-    go : (f g : Bool) (s t : BestShape) → Either f (ShapeHeld p (BestBy p r) s) (NoShape p r × Blank s) → Either g (ShapeHeld p (BestBy p r) t) (NoShape p r × Blank t) → ◌≡◌ {A = BestAnswer} (record { found = f; shape = s }) (record { found = g; shape = t })
-    go true true s t h k = ap (λ (z : BestShape). record { found = true; shape = z }) (shape_only p (BestBy p r) (one_best_by p r) s t h k)
-    go true false s t h k = absurd (k.0 (shape_of p (angles_held p s) (right_bends p s)) h.best.meets_all h.best.keeps_all)
-    go false true s t h k = absurd (h.0 (shape_of p (angles_held p t) (right_bends p t)) k.best.meets_all k.best.keeps_all)
-    go false false s t h k = ap (λ (z : BestShape). record { found = false; shape = z }) (blank_only s t h.1 k.1)
+pub answer_only : (p : Plate) (r : Rates) (a b : Option BestShape) → Answers p r a → Answers p r b → a ≡ b
+answer_only p r (Some s) (Some t) h k = ap Some (shape_only p (BestBy p r) (one_best_by p r) s t h k)
+answer_only p r (Some s) None h k = absurd (k (shape_of p (angles_held p s) (right_bends p s)) h.best.meets_all h.best.keeps_all)
+answer_only p r None (Some t) h k = absurd (h (shape_of p (angles_held p t) (right_bends p t)) k.best.meets_all k.best.keeps_all)
+answer_only p r None None h k = refl

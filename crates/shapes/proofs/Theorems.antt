@@ -1,20 +1,19 @@
 -- The theorems of this crate in one place: what holds of every accepted plate and its shapes.
 use mathlib.Core.Path.{◌≡◌, refl, sym, ap, ◌∙◌}
-use mathlib.Core.Bool.{Bool, true, false}
+use mathlib.Core.Bool.{true}
 use mathlib.Core.List.{List, ◌++◌}
 use mathlib.Core.Logic.{◌↔◌, ◌⊎◌, inl, inr}
 use Prim.Native.Nat.{ℕ, zero, suc, ◌≤◌, ◌<◌, min}
 use native.Mathlib.Omega.{arith}
 use lib.ListN.{length, get_or, take, drop}
-use Rattle.finite.proofs.Tests.{not_both, not_true_false}
-use Rattle.flow.specs.Network.{Flow, Least, Either, cost_of}
+use Rattle.std.specs.Prelude.{Option, Some, None}
+use Rattle.flow.specs.Network.{Flow, Least, cost_of}
 use Rattle.embedding.specs.Plates.{Plate, darts, twin}
 use Rattle.shapes.specs.Shapes.{Shape, rights, lefts, nth_w, meets, bends, rights_of, total, shape_of}
 use Rattle.shapes.specs.Claims.{Accepted, Best, Network, is_flow}
 use Rattle.shapes.specs.Rates.{Rates, Fair, pair_sums, price, BestBy, NoShape}
 use Rattle.shapes.specs.NetworkOf.{network_of, rated_of}
-use Rattle.shapes.specs.BestOf.{BestHeld, ShapeHeld, Blank, Answers, angles_held, right_bends}
-use Rattle.shapes.specs.declared.best.BestAnswer.{BestAnswer}
+use Rattle.shapes.specs.BestOf.{BestHeld, Answers, angles_held, right_bends}
 use Rattle.shapes.specs.declared.best.BestShape.{BestShape}
 use Rattle.shapes.proofs.Accepted as Accepted
 use Rattle.shapes.proofs.Flows.{flow_cost}
@@ -90,16 +89,9 @@ module _ (p : Plate) (a : Accepted p) (r : Rates) (fair : Fair r) where
   price_fits s best = omega (arith, price_most p (Accepted.ordered p a) r s best.meets_all fair, best_total_by p (Accepted.faultless p a) (Accepted.ordered p a) r fair s best)
 
   -- `best_by` finds none exactly when no shape keeps the limits, and what it gives depends on the plate, the limits and the prices alone
-  pub none_exactly : (b : BestAnswer) → Answers p r b → (b.found ≡ false) ↔ NoShape p r
-  none_exactly b h = (λ e. none b.found e h, λ n. not_true_false b.found (λ e. n (shape_of p (angles_held p b.shape) (right_bends p b.shape)) (some b.found e h).best.meets_all (some b.found e h).best.keeps_all))
-    where
-      none : (f : Bool) → f ≡ false → Either f (ShapeHeld p (BestBy p r) b.shape) (NoShape p r × Blank b.shape) → NoShape p r
-      none true e h = absurd (not_both refl e)
-      none false e h = h.0
+  pub none_exactly : (o : Option BestShape) → Answers p r o → (o ≡ None) ↔ NoShape p r
+  none_exactly (Some s) h = (λ e. cc, λ n. absurd (n (shape_of p (angles_held p s) (right_bends p s)) h.best.meets_all h.best.keeps_all))
+  none_exactly None h = (λ e. h, λ n. refl)
 
-      some : (f : Bool) → f ≡ true → Either f (ShapeHeld p (BestBy p r) b.shape) (NoShape p r × Blank b.shape) → ShapeHeld p (BestBy p r) b.shape
-      some true e h = h
-      some false e h = absurd (not_both e refl)
-
-  pub rates_alone : (b c : BestAnswer) → Answers p r b → Answers p r c → b ≡ c
+  pub rates_alone : (b c : Option BestShape) → Answers p r b → Answers p r c → b ≡ c
   rates_alone = answer_only p r

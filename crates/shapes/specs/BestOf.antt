@@ -1,13 +1,11 @@
 -- What the best shape of a plate holds.
-use Rattle.std.specs.Prelude.{◌≡◌, List, ℕ, ◌+◌, ◌≤◌, ◌<◌, length, get_or, take, drop}
+use Rattle.std.specs.Prelude.{◌≡◌, Option, Some, None, List, ℕ, ◌+◌, ◌≤◌, ◌<◌, length, get_or, take, drop}
 use Rattle.finite.specs.Tables.{Table}
-use Rattle.flow.specs.Network.{Either}
 use Rattle.embedding.specs.Plates.{Plate, darts}
 use Rattle.shapes.specs.Shapes.{Shape, rights_of, total, shape_of}
 use Rattle.shapes.specs.Claims.{Best}
 use Rattle.shapes.specs.Rates.{Rates, pair_sums, BestBy, NoShape}
 use Rattle.shapes.specs.declared.best.BestShape.{BestShape}
-use Rattle.shapes.specs.declared.best.BestAnswer.{BestAnswer}
 
 -- a number for each dart, right bends and angles
 abbrev pub right_bends : Plate → BestShape → List ℕ
@@ -33,15 +31,10 @@ pub record ShapeHeld (p : Plate) (So : Shape → Type 0) (r : BestShape) : Type 
 abbrev pub BestHeld : Plate → BestShape → Type 0
 BestHeld p r = ShapeHeld p (Best p) r
 
--- no shape: all 0
-pub record Blank (r : BestShape) : Type 0 where
-  pub no_rights : Table 256 (λ i. 0) r.rights
-  pub no_angles : Table 256 (λ i. 0) r.angles
-  pub no_total : r.total ≡ 0
-
 -- the best shape within the limits, or that none keeps them
-abbrev pub Answers : Plate → Rates → BestAnswer → Type 0
-Answers p r a = Either a.found (ShapeHeld p (BestBy p r) a.shape) (NoShape p r × Blank a.shape)
+abbrev pub Answers : Plate → Rates → Option BestShape → Type 0
+Answers p r (Some s) = ShapeHeld p (BestBy p r) s
+Answers p r None = NoShape p r
 
 -- two numbers to a place, whose sum fits a byte
 pub record Paired (n : ℕ) (xs : List ℕ) : Type 0 where

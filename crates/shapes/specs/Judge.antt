@@ -17,12 +17,6 @@ pub record Keys (n : ℕ) (keys : List ℕ) : Type 0 where
   pub long : length keys ≡ 256
   pub below : all_below n keys ≡ true
 
--- for each dart an angle and its right bends
-pub record Counts (angles rights : List ℕ) : Type 0 where
-  pub same_length : length rights ≡ length angles
-  pub even_length : length angles % 2 ≡ 0
-  pub most : length angles ≤ 256
-
 -- the angles at a post
 abbrev pub post_angles : List ℕ → List ℕ → ℕ → ℕ
 post_angles ends angles = group_sum (length angles) (λ d. get_or ends (twin d) 0) (λ d. get_or angles d 0)

@@ -1,19 +1,20 @@
 //! The best shape of a plate: the first of the cheapest flows, read as right bends and angles.
-ghost use Rattle.std.specs.Prelude.{◌≡◌, ℕ, ◌+◌, ◌<◌, ◌≤◌, length, get_or};
-ghost use Rattle.finite.specs.Base.{total};
+ghost use Rattle.std.specs.Prelude.{◌≡◌, ℕ, ◌+◌, ◌%◌, ◌<◌, ◌≤◌, length, get_or, take};
 ghost use Rattle.finite.specs.Tables.{Table};
 ghost use Rattle.embedding.specs.Plates.{Plate as PlateOf};
 ghost use Rattle.embedding.specs.Read.{Stands};
 ghost use Rattle.shapes.specs.Claims.{Standing, Accepted};
 ghost use Rattle.shapes.specs.Rates.{rates, Fair, pair_sums};
 ghost use Rattle.shapes.specs.Entries.{Lent};
-ghost use Rattle.shapes.specs.BestOf.{BestHeld, Answers, Blank, Paired, Small, Taken};
+ghost use Rattle.shapes.specs.BestOf.{BestHeld, Answers, Paired, Small, Taken};
 
+use crate::counts::{Counts, total_bends};
 use crate::network::lay_network;
+use crate::rates::StripRates;
 use embedding::Plate;
 use flow::solve::solve;
 
-// The right bends and the angle of each dart, and the sum of the right bends. Unused places are 0.
+/// The right bends and the angle of each dart, and the sum of the right bends. Unused places are 0.
 #[derive(Clone, Copy)]
 pub struct BestShape {
     pub angles: [u8; 256],
@@ -21,11 +22,17 @@ pub struct BestShape {
     pub total: u32,
 }
 
-// The best shape within the limits, or that no shape keeps them; then all its numbers are 0.
-#[derive(Clone, Copy)]
-pub struct BestAnswer {
-    pub found: bool,
-    pub shape: BestShape,
+impl BestShape {
+    /// The counts of the first `darts` darts.
+    pub fn counts(&self, darts: usize) -> Counts<'_>
+        requires { (darts ≤ 256) × (darts % 2 ≡ 0) }
+        ensures { (result.angles.now ≡ take darts self.now.angles) × (result.rights.now ≡ take darts self.now.rights) }
+    {
+        Counts {
+            angles: &self.angles[..darts],
+            rights: &self.rights[..darts],
+        }
+    }
 }
 
 // Numbers that fit a byte each.
@@ -34,33 +41,10 @@ fn bytes_of(units: &[u16]) -> [u8; 256]
     ensures { Table 256 (λ i. get_or units.now i 0) result }
 {
     let mut bytes = [0u8; 256];
-    let mut i = 0;
-    while i < units.len() {
-        bytes[i] = units[i] as u8;
-        i += 1;
+    for (i, unit) in units.iter().enumerate() {
+        bytes[i] = *unit as u8;
     }
     bytes
-}
-
-fn with_bends(sum: u32, bends: u16) -> u32
-    requires { sum < 65536 }
-    ensures { result ≡ sum + bends }
-{
-    sum + bends as u32
-}
-
-// Each right bend counts once.
-fn total_bends(rights: &[u16]) -> u32
-    requires { total rights.now < 65536 }
-    ensures { result ≡ total rights.now }
-{
-    let mut sum = 0u32;
-    let mut d = 0;
-    while d < rights.len() {
-        sum = with_bends(sum, rights[d]);
-        d += 1;
-    }
-    sum
 }
 
 // The two units of each corner together.
@@ -69,12 +53,8 @@ fn corners_of(units: &[u16], darts: usize) -> [u8; 256]
     ensures { Table 256 (λ i. get_or (pair_sums units.now) i 0) result }
 {
     let mut bytes = [0u8; 256];
-    let mut d = 0;
-    while d < darts {
-        let low = units[d + d];
-        let high = units[d + d + 1];
-        bytes[d] = low as u8 + high as u8;
-        d += 1;
+    for d in 0..darts {
+        bytes[d] = (units[d + d] + units[d + d + 1]) as u8;
     }
     bytes
 }
@@ -86,7 +66,7 @@ fn take_shape(darts: usize, x: &[u16]) -> BestShape
 {
     let rights = bytes_of(&x[..darts]);
     let angles = corners_of(&x[darts..], darts);
-    let total = total_bends(&x[..darts]);
+    let total = total_bends(&rights[..darts]);
     BestShape {
         angles,
         rights,
@@ -94,21 +74,10 @@ fn take_shape(darts: usize, x: &[u16]) -> BestShape
     }
 }
 
-fn no_shape() -> BestShape
-    ensures { Blank result }
-{
-    BestShape {
-        angles: [0u8; 256],
-        rights: [0u8; 256],
-        total: 0,
-    }
-}
-
 // The answer, in lent space: lists by arc and by node.
 fn best_in(
     q: Plate,
-    limits: &[u8],
-    prices: &[u8],
+    by: StripRates,
     tails: &mut [u8],
     heads: &mut [u8],
     lowers: &mut [u16],
@@ -117,28 +86,24 @@ fn best_in(
     supplies: &mut [u16],
     demands: &mut [u16],
     x: &mut [u16],
-) -> BestAnswer
-    requires { Standing q × Fair (rates limits.now prices.now) × Lent q tails.old heads.old lowers.old uppers.old costs.old supplies.old demands.old × (length x.old ≡ q.darts + (q.darts + q.darts)) }
-    ensures { (p : PlateOf) → Stands q p → Accepted p → Answers p (rates limits.now prices.now) result }
+) -> Option<BestShape>
+    requires { Standing q × Fair (rates by.limits.now by.prices.now) × Lent q tails.old heads.old lowers.old uppers.old costs.old supplies.old demands.old × (length x.old ≡ q.darts + (q.darts + q.darts)) }
+    ensures { (p : PlateOf) → Stands q p → Accepted p → Answers p (rates by.entry.limits.now by.entry.prices.now) result }
 {
     let darts = q.darts;
     lay_network(
-        q, limits, prices, tails, heads, lowers, uppers, costs, supplies, demands,
+        q, by, tails, heads, lowers, uppers, costs, supplies, demands,
     );
     if !solve(tails, heads, lowers, uppers, costs, supplies, demands, x) {
-        return BestAnswer {
-            found: false,
-            shape: no_shape(),
-        };
+        return None;
     }
-    let shape = take_shape(darts, x);
-    BestAnswer { found: true, shape }
+    Some(take_shape(darts, x))
 }
 
-// The best shape of an accepted plate within limits, by prices of bends: by strip, no limit and a price of 1 where the list is shorter.
-pub fn best_by(q: Plate, limits: &[u8], prices: &[u8]) -> BestAnswer
-    requires { Standing q × Fair (rates limits.now prices.now) }
-    ensures { (p : PlateOf) → Stands q p → Accepted p → Answers p (rates limits.now prices.now) result }
+/// The best shape of an accepted plate within limits, by prices of bends, if some shape keeps the limits.
+pub fn best_by(q: Plate, by: StripRates) -> Option<BestShape>
+    requires { Standing q × Fair (rates by.limits.now by.prices.now) }
+    ensures { (p : PlateOf) → Stands q p → Accepted p → Answers p (rates by.entry.limits.now by.entry.prices.now) result }
 {
     let arcs = q.darts + (q.darts + q.darts);
     let nodes = q.posts + q.faces;
@@ -152,8 +117,7 @@ pub fn best_by(q: Plate, limits: &[u8], prices: &[u8]) -> BestAnswer
     let mut x = [0u16; 768];
     best_in(
         q,
-        limits,
-        prices,
+        by,
         &mut tails[..arcs],
         &mut heads[..arcs],
         &mut lowers[..arcs],
@@ -165,11 +129,17 @@ pub fn best_by(q: Plate, limits: &[u8], prices: &[u8]) -> BestAnswer
     )
 }
 
-// The best shape of an accepted plate: no limits, and each bend costs 1.
+/// The best shape of an accepted plate: no limits, and each bend costs 1.
 pub fn best(q: Plate) -> BestShape
     requires { Standing q }
     ensures { (p : PlateOf) → Stands q p → Accepted p → BestHeld p result }
 {
-    let answer = best_by(q, b"", b"");
-    answer.shape
+    best_by(
+        q,
+        StripRates {
+            limits: b"",
+            prices: b"",
+        },
+    )
+    .unwrap()
 }

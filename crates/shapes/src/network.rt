@@ -10,6 +10,7 @@ ghost use Rattle.shapes.specs.NetworkOf.{bend_most, rated_of};
 ghost use Rattle.shapes.specs.Entries.{node_at, joint_at, corner_most, supply_at, demand_at, Faced, Jointed, Sized, BendEnds, BendRates, CornerEnds, CornerRates, Lent};
 
 use crate::judge::key_of;
+use crate::rates::{StripRates, given_or};
 use embedding::{Plate, twin_of};
 
 // The node of the face of dart `d`.
@@ -24,15 +25,10 @@ fn node_of(posts: usize, darts: usize, face: &[u8], d: usize) -> u8
 fn bend_most(limits: &[u8], d: usize) -> u16
     ensures { result ≡ bend_most limits.now d }
 {
-    let i = d / 2;
-    if limits.len() <= i {
-        return 65535;
+    match limits.get(d / 2) {
+        Some(most) if *most < 255 => u16::from(*most),
+        _ => 65535,
     }
-    let most = limits[i];
-    if most < 255 {
-        return most as u16;
-    }
-    65535
 }
 
 // Does dart `d` end at a post with exactly two strip ends?
@@ -40,33 +36,19 @@ fn is_joint(ends: &[u8], degrees: &[u8], darts: usize, d: usize) -> bool
     requires { Jointed darts ends.now degrees.now × (d < darts) }
     ensures { result ≡ joint_at ends.now degrees.now d }
 {
-    let t = twin_of(d);
-    let v = key_of(ends, 64, t);
-    degrees[v] == 2
+    degrees[key_of(ends, 64, twin_of(d))] == 2
 }
 
 // The most units on an arc of a corner: two and one where a third makes a cornered post, else all on the first.
 fn corner_most(joint: bool, first: bool) -> u16
     ensures { result ≡ corner_most joint first }
 {
-    if first {
-        if joint {
-            return 2;
-        }
-        return 4;
+    match (joint, first) {
+        (true, true) => 2,
+        (true, false) => 1,
+        (false, true) => 4,
+        (false, false) => 0,
     }
-    if joint { 1 } else { 0 }
-}
-
-// The price of a bend on dart `d`.
-fn bend_price(prices: &[u8], d: usize) -> u64
-    ensures { (result ≡ get_or prices.now (d / 2) 1) × (result < 256) }
-{
-    let i = d / 2;
-    if prices.len() <= i {
-        return 1;
-    }
-    prices[i] as u64
 }
 
 // What node `v` supplies: the outer face nothing.
@@ -85,10 +67,7 @@ fn demand_of(posts: usize, sizes: &[u16], outer: usize, v: usize) -> u16
         return 0;
     }
     let corners = 2 * sizes[v - posts];
-    if v == outer {
-        return corners + 4;
-    }
-    corners
+    if v == outer { corners + 4 } else { corners }
 }
 
 // The arcs of the darts: from a dart's face to its twin's.
@@ -96,51 +75,46 @@ fn fill_bend_ends(posts: usize, darts: usize, face: &[u8], tails: &mut [u8], hea
     requires { Faced posts darts face.now × (length tails.old ≡ darts + (darts + darts)) × (length heads.old ≡ darts + (darts + darts)) }
     ensures { BendEnds posts darts face.now darts tails.new heads.new }
 {
-    let mut d = 0;
-    while d < darts {
+    for d in 0..darts {
         tails[d] = node_of(posts, darts, face, d);
         heads[d] = node_of(posts, darts, face, twin_of(d));
-        d += 1;
     }
 }
 
 // The bounds and costs of the darts' arcs: a unit is a bend.
 fn fill_bend_rates(
     darts: usize,
-    limits: &[u8],
-    prices: &[u8],
+    by: StripRates,
     lowers: &mut [u16],
     uppers: &mut [u16],
     costs: &mut [u64],
 )
     requires { (length lowers.old ≡ darts + (darts + darts)) × (length uppers.old ≡ darts + (darts + darts)) × (length costs.old ≡ darts + (darts + darts)) }
-    ensures { BendRates darts limits.now prices.now darts lowers.new uppers.new costs.new }
+    ensures { BendRates darts by.entry.limits.now by.entry.prices.now darts lowers.new uppers.new costs.new }
 {
-    let mut d = 0;
-    while d < darts {
+    for d in 0..darts {
         lowers[d] = 0;
-        uppers[d] = bend_most(limits, d);
-        costs[d] = bend_price(prices, d) * 4294967296 + 1;
-        d += 1;
+        uppers[d] = bend_most(by.limits, d);
+        costs[d] = u64::from(given_or(by.prices, 1, d / 2)) * 4294967296 + 1;
     }
 }
 
 // The same by two loops, of which the one without limits asks for none; most lists have none.
 fn lay_bend_rates(
     darts: usize,
-    limits: &[u8],
-    prices: &[u8],
+    by: StripRates,
     lowers: &mut [u16],
     uppers: &mut [u16],
     costs: &mut [u64],
 )
     requires { (length lowers.old ≡ darts + (darts + darts)) × (length uppers.old ≡ darts + (darts + darts)) × (length costs.old ≡ darts + (darts + darts)) }
-    ensures { BendRates darts limits.now prices.now darts lowers.new uppers.new costs.new }
+    ensures { BendRates darts by.entry.limits.now by.entry.prices.now darts lowers.new uppers.new costs.new }
 {
-    if limits.len() == 0 {
-        fill_bend_rates(darts, b"", prices, lowers, uppers, costs);
+    if by.limits.is_empty() {
+        let none = StripRates { limits: b"", ..by };
+        fill_bend_rates(darts, none, lowers, uppers, costs);
     } else {
-        fill_bend_rates(darts, limits, prices, lowers, uppers, costs);
+        fill_bend_rates(darts, by, lowers, uppers, costs);
     }
 }
 
@@ -156,8 +130,7 @@ fn fill_corner_ends(
     requires { Faced posts darts face.now × (length ends.now ≡ 256) × (length tails.old ≡ darts + (darts + darts)) × (length heads.old ≡ darts + (darts + darts)) }
     ensures { CornerEnds posts darts ends.now face.now darts tails.old heads.old tails.new heads.new }
 {
-    let mut d = 0;
-    while d < darts {
+    for d in 0..darts {
         let first = darts + d + d;
         let second = first + 1;
         let post = ends[twin_of(d)];
@@ -166,7 +139,6 @@ fn fill_corner_ends(
         tails[second] = post;
         heads[first] = node;
         heads[second] = node;
-        d += 1;
     }
 }
 
@@ -182,8 +154,7 @@ fn fill_corner_rates(
     requires { Jointed darts ends.now degrees.now × (length lowers.old ≡ darts + (darts + darts)) × (length uppers.old ≡ darts + (darts + darts)) × (length costs.old ≡ darts + (darts + darts)) }
     ensures { CornerRates darts ends.now degrees.now darts lowers.old uppers.old costs.old lowers.new uppers.new costs.new }
 {
-    let mut d = 0;
-    while d < darts {
+    for d in 0..darts {
         let first = darts + d + d;
         let second = first + 1;
         let joint = is_joint(ends, degrees, darts, d);
@@ -193,17 +164,14 @@ fn fill_corner_rates(
         uppers[second] = corner_most(joint, false);
         costs[first] = 0;
         costs[second] = 65536;
-        d += 1;
     }
 }
 
 fn fill_supplies(outer: usize, supplies: &mut [u16])
     ensures { Table (length supplies.old) (supply_at outer) supplies.new }
 {
-    let mut v = 0;
-    while v < supplies.len() {
-        supplies[v] = supply_of(outer, v);
-        v += 1;
+    for (v, supply) in supplies.iter_mut().enumerate() {
+        *supply = supply_of(outer, v);
     }
 }
 
@@ -211,18 +179,15 @@ fn fill_demands(posts: usize, sizes: &[u16], outer: usize, demands: &mut [u16])
     requires { (length demands.old ≤ posts + 66) × Sized sizes.now }
     ensures { Table (length demands.old) (demand_at posts sizes.now outer) demands.new }
 {
-    let mut v = 0;
-    while v < demands.len() {
-        demands[v] = demand_of(posts, sizes, outer, v);
-        v += 1;
+    for (v, demand) in demands.iter_mut().enumerate() {
+        *demand = demand_of(posts, sizes, outer, v);
     }
 }
 
 // Arcs: the darts, then the corners, two to each. Nodes: the posts, then the faces.
 pub fn lay_network(
     q: Plate,
-    limits: &[u8],
-    prices: &[u8],
+    by: StripRates,
     tails: &mut [u8],
     heads: &mut [u8],
     lowers: &mut [u16],
@@ -232,7 +197,7 @@ pub fn lay_network(
     demands: &mut [u16],
 )
     requires { Standing q × Lent q tails.old heads.old lowers.old uppers.old costs.old supplies.old demands.old }
-    ensures { (p : PlateOf) → Stands q p → Accepted p → network tails.new heads.new lowers.new uppers.new costs.new supplies.new demands.new ≡ rated_of p (rates limits.now prices.now) }
+    ensures { (p : PlateOf) → Stands q p → Accepted p → network tails.new heads.new lowers.new uppers.new costs.new supplies.new demands.new ≡ rated_of p (rates by.entry.limits.now by.entry.prices.now) }
 {
     let posts = q.posts;
     let darts = q.darts;
@@ -240,9 +205,9 @@ pub fn lay_network(
     let degrees = q.degrees;
     let face = q.face;
     let sizes = q.sizes;
-    let outer = posts + face[q.outer as usize] as usize;
+    let outer = posts + usize::from(face[usize::from(q.outer)]);
     fill_bend_ends(posts, darts, &face, tails, heads);
-    lay_bend_rates(darts, limits, prices, lowers, uppers, costs);
+    lay_bend_rates(darts, by, lowers, uppers, costs);
     fill_corner_ends(posts, darts, &ends, &face, tails, heads);
     fill_corner_rates(darts, &ends, &degrees, lowers, uppers, costs);
     fill_supplies(outer, supplies);

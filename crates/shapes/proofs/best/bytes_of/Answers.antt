@@ -4,4 +4,4 @@ use native.Mathlib.Omega.{arith}
 use Rattle.shapes.proofs.best.bytes_of.Goals as goal
 
 pub loop-i-init : goal.loop-i-init
-loop-i-init c = (table_none 256 _, omega arith)
+loop-i-init c = table_none 256 _

@@ -1,11 +1,7 @@
 -- `bytes_of`: the places before i are copied.
-use Prim.Native.Nat.{◌-◌, ◌≤◌}
-use lib.ListN.{length, get_or}
+use lib.ListN.{get_or}
 use Rattle.finite.specs.Tables.{Table, up_to}
 use Rattle.shapes.proofs.best.bytes_of.Given as goal
 
 abbrev pub invariant-loop-i : goal.invariant-loop-i
-invariant-loop-i l = Table 256 (up_to l.i (λ j. get_or l.units j 0)) l.bytes × (l.i ≤ length l.units)
-
-abbrev pub decreases-loop-i : goal.decreases-loop-i
-decreases-loop-i l = length l.units - l.i
+invariant-loop-i l = Table 256 (up_to l.i (λ j. get_or l.units j 0)) l.bytes

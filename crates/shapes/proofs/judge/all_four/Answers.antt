@@ -1,14 +1,14 @@
--- `shapes::judge::all_four` meets its contract: the posts left answer for all.
-use mathlib.Core.Path.{refl}
+-- `all_four`: each post has 4.
+use Rattle.std.proofs.Common.{rules, tests, arith, refl, ◌∙◌, get_or}
 use lib.Dec.{eqb}
-use lib.ListN.{get_or}
-use borrow.Author.Tests.{eq-eqb}
+use Rattle.std.proofs.lemmas.Iterator.{YieldsList-from_range}
+use Rattle.std.proofs.lemmas.Iterator.Search.{all_from_yields_List}
 use Rattle.shapes.specs.Judge.{all_four}
-use Rattle.shapes.proofs.Upward.{upward_on}
-use native.Mathlib.Omega.{arith}
+use Rattle.shapes.proofs.Chains.{all_upward}
 use Rattle.shapes.proofs.judge.all_four.Goals as goal
 
-pub loop-v-preserved : goal.loop-v-preserved
-loop-v-preserved c =
-    let sums = c.args.sums in
-    upward_on (λ k u. all_four k u sums) (λ u. eqb (get_or sums u 0) 4) (λ k u. refl) c.args.n c.loop-v.v c.loop-v.invariant (omega arith) (eq-eqb _ 4 c.if-sums-v-ne4.false)
+pub returns : goal.returns
+returns c =
+    let four = λ (v : _). eqb (get_or c.args.sums v 0) 4 in
+    all_from_yields_List four _ _ c.all.result c.all.ensures.ran (YieldsList-from_range 0 c.args.n c.args.n refl (omega arith)) (λ x b q k. search (rules, tests))
+    ∙ all_upward (λ n v. all_four n v c.args.sums) four (λ v. refl) (λ n v. refl) c.args.n 0

@@ -1,15 +1,15 @@
--- `shapes::judge::all_turn` meets its contract: the faces left answer for all.
-use mathlib.Core.Path.{refl, sym, ◌∙◌}
+-- `all_turn`: each face has its turns.
+use Rattle.std.proofs.Common.{rules, tests, arith, refl, ◌∙◌, get_or}
 use lib.Dec.{eqb}
-use lib.ListN.{get_or}
-use borrow.Author.Tests.{not-false}
+use Rattle.std.proofs.lemmas.Iterator.{YieldsList-from_range}
+use Rattle.std.proofs.lemmas.Iterator.Search.{all_from_yields_List}
 use Rattle.shapes.specs.Judge.{turns_ok, all_turn}
-use Rattle.shapes.proofs.Upward.{upward_on}
-use native.Mathlib.Omega.{arith}
+use Rattle.shapes.proofs.Chains.{all_upward}
 use Rattle.shapes.proofs.judge.all_turn.Goals as goal
 
-pub loop-k-preserved : goal.loop-k-preserved
-loop-k-preserved c =
+pub returns : goal.returns
+returns c =
     let a = c.args in
-    upward_on (λ j u. all_turn j u a.outer a.plus a.minus) (λ u. turns_ok (eqb u a.outer) (get_or a.plus u 0) (get_or a.minus u 0)) (λ j u. refl) a.n c.loop-k.k c.loop-k.invariant (omega arith)
-    (sym c.turns_ok.ensures ∙ not-false c.turns_ok.result c.if-not-turns_ok.false-raw)
+    let turns = λ (k : _). turns_ok (eqb k a.outer) (get_or a.plus k 0) (get_or a.minus k 0) in
+    all_from_yields_List turns _ _ c.all.result c.all.ensures.ran (YieldsList-from_range 0 a.n a.n refl (omega arith)) (λ x b q k. search (rules, tests))
+    ∙ all_upward (λ n k. all_turn n k a.outer a.plus a.minus) turns (λ k. refl) (λ n k. refl) a.n 0

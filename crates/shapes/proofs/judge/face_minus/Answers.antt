@@ -1,15 +1,9 @@
--- `shapes::judge::face_minus` meets its contract: the sums of the darts before d.
+-- `face_minus`: a dart's key is its face, its number its left bends and its angle.
+use Rattle.std.proofs.Common.{rules, get_or, ◌+◌}
 use Rattle.embedding.specs.Plates.{twin}
-use Rattle.shapes.proofs.Groups.{adding_start, adding_few}
-use native.Mathlib.Omega.{arith}
 use Rattle.shapes.proofs.judge.face_minus.Goals as goal
 
-pub loop-d-init : goal.loop-d-init
-loop-d-init c = adding_start
-
-pub overflow_add-sums-in-loop-d : goal.overflow_add-sums-in-loop-d
-overflow_add-sums-in-loop-d c =
-    let right = c.shared_slice_known-in-loop-d-1.given in
-    let angle = c.shared_slice_known-in-loop-d-2-1.given in
-    let few = adding_few c.loop-d.invariant c.key_of-k.result c.key_of-k.ensures.1 (omega arith) (λ i. omega (arith, right (twin i), angle i)) in
-    omega (arith, right c.twin_of-t.result, angle c.loop-d.d, few)
+pub returns : goal.returns
+returns c =
+    let a = c.args.counts in
+    c.group_sum.ensures (λ d. get_or c.args.face.now d 0) (λ d. get_or a.rights.now (twin d) 0 + get_or a.angles.now d 0) (λ d r l e. search rules)

@@ -1,12 +1,6 @@
--- `shapes::judge::face_plus` meets its contract: the sums of the darts before d.
-use Rattle.shapes.proofs.Groups.{adding_start, adding_few}
-use native.Mathlib.Omega.{arith}
+-- `face_plus`: a dart's key is its face, its number its right bends and 2.
+use Rattle.std.proofs.Common.{rules, get_or, ◌+◌}
 use Rattle.shapes.proofs.judge.face_plus.Goals as goal
 
-pub loop-d-init : goal.loop-d-init
-loop-d-init c = adding_start
-
-pub overflow_add-sums-in-loop-d : goal.overflow_add-sums-in-loop-d
-overflow_add-sums-in-loop-d c =
-    let bytes = c.shared_slice_known-in-loop-d-1.given in
-    omega (arith, bytes c.loop-d.d, adding_few c.loop-d.invariant c.key_of-k.result c.key_of-k.ensures.1 (omega arith) (λ i. omega (arith, bytes i)))
+pub returns : goal.returns
+returns c = c.group_sum.ensures (λ d. get_or c.args.face.now d 0) (λ d. get_or c.args.rights.now d 0 + 2) (λ d r l e. search rules)

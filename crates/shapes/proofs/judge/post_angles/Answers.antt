@@ -1,12 +1,7 @@
--- `shapes::judge::post_angles` meets its contract: the sums of the darts before d.
-use Rattle.shapes.proofs.Groups.{adding_start, adding_few}
-use native.Mathlib.Omega.{arith}
+-- `post_angles`: a dart's key is the post where it ends, its number its angle.
+use Rattle.std.proofs.Common.{rules, get_or}
+use Rattle.embedding.specs.Plates.{twin}
 use Rattle.shapes.proofs.judge.post_angles.Goals as goal
 
-pub loop-d-init : goal.loop-d-init
-loop-d-init c = adding_start
-
-pub overflow_add-sums : goal.overflow_add-sums
-overflow_add-sums c =
-    let bytes = c.shared_slice_known-in-loop-d-1.given in
-    omega (arith, bytes c.loop-d.d, adding_few c.loop-d.invariant c.key_of-v.result c.key_of-v.ensures.1 (omega arith) (λ i. omega (arith, bytes i)))
+pub returns : goal.returns
+returns c = c.group_sum.ensures (λ d. get_or c.args.ends.now (twin d) 0) (λ d. get_or c.args.angles.now d 0) (λ d r l e. search rules)

@@ -1,10 +1,6 @@
 -- `fill_corner_ends`: the corners below d have their arcs' ends.
-use Prim.Native.Nat.{◌-◌}
 use Rattle.shapes.specs.Entries.{CornerEnds}
 use Rattle.shapes.proofs.network.fill_corner_ends.Given as goal
 
 abbrev pub invariant-loop-d : goal.invariant-loop-d
 invariant-loop-d l = CornerEnds l.posts l.darts l.ends l.face l.d l.initial.tails l.initial.heads l.tails l.heads
-
-abbrev pub decreases-loop-d : goal.decreases-loop-d
-decreases-loop-d l = l.darts - l.d

@@ -1,11 +1,7 @@
 -- `fill_demands`: the nodes below v have their demand.
-use Prim.Native.Nat.{◌-◌}
 use lib.ListN.{length}
 use Rattle.shapes.specs.Entries.{demand_at, Begun}
 use Rattle.shapes.proofs.network.fill_demands.Given as goal
 
 abbrev pub invariant-loop-v : goal.invariant-loop-v
 invariant-loop-v l = Begun (length l.initial.demands) (demand_at l.posts l.sizes l.outer) l.v l.demands
-
-abbrev pub decreases-loop-v : goal.decreases-loop-v
-decreases-loop-v l = length l.initial.demands - l.v

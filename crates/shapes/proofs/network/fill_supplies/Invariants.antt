@@ -1,11 +1,7 @@
 -- `fill_supplies`: the nodes below v have their supply.
-use Prim.Native.Nat.{◌-◌}
 use lib.ListN.{length}
 use Rattle.shapes.specs.Entries.{supply_at, Begun}
 use Rattle.shapes.proofs.network.fill_supplies.Given as goal
 
 abbrev pub invariant-loop-v : goal.invariant-loop-v
 invariant-loop-v l = Begun (length l.initial.supplies) (supply_at l.outer) l.v l.supplies
-
-abbrev pub decreases-loop-v : goal.decreases-loop-v
-decreases-loop-v l = length l.initial.supplies - l.v

@@ -1,19 +1,33 @@
 -- `price_of`: the strips before i are paid.
-use mathlib.Core.Path.{ap₂}
+use mathlib.Core.Path.{ap, ap₂, ◌∙◌}
 use Prim.Native.Nat.{ℕ, ◌*◌, ◌/◌}
+use native.Mathlib.Nat.{le_antisymm}
 use lib.ListN.{length}
+use native.Mathlib.Omega.{arith}
+use Rattle.finite.proofs.Sums.{sum_below, sum_more}
 use Rattle.shapes.specs.Rates.{pair_sums}
 use Rattle.shapes.proofs.Pairs.{sums_long}
-use Rattle.shapes.proofs.StripLoops.{priced_on, priced_done, product_few}
-use native.Mathlib.Omega.{arith}
+use Rattle.shapes.proofs.StripLoops.{priced_at, priced_upto, product_few}
 use Rattle.shapes.proofs.rates.price_of.Goals as goal
+
+pub overflow_mul-sum : goal.overflow_mul-sum
+overflow_mul-sum c = omega (arith, c.loop-i.invariant.1, product_few c.given_or.result c.strip_bends.result c.given_or.ensures.1 c.strip_bends.ensures.1, c.requires.1)
+
+pub overflow_add-sum : goal.overflow_add-sum
+overflow_add-sum c = omega (arith, c.loop-i.invariant.1, product_few c.given_or.result c.strip_bends.result c.given_or.ensures.1 c.strip_bends.ensures.1, c.requires.1)
 
 pub loop-i-preserved : goal.loop-i-preserved
 loop-i-preserved c =
-    let l = c.loop-i in (
-      omega (arith, priced_on c.args.prices.now (pair_sums c.args.rights.now) l.i l.sum l.invariant.0 (omega (arith, sums_long (length c.args.rights.now / 2) c.args.rights.now (omega (arith, c.requires.0)))), ap₂ (λ (a b : ℕ). a * b) c.given_or-price.ensures.0 c.strip_bends-bends.ensures.0),
-      omega (arith, l.invariant.1, product_few c.given_or-price.result c.strip_bends-bends.result c.given_or-price.ensures.1 c.strip_bends-bends.ensures.1),
+    let l = c.loop-i in
+    let price = c.given_or.ensures in
+    let bends = c.strip_bends.ensures in (
+      omega (arith, l.invariant.0, sum_more l.i (priced_at c.args.prices.now (pair_sums c.args.rights.now)), ap₂ (λ (a b : ℕ). a * b) price.0 bends.0),
+      omega (arith, l.invariant.1, product_few c.given_or.result c.strip_bends.result price.1 bends.1),
     )
 
 pub returns : goal.returns
-returns c = let l = c.loop-i in priced_done c.args.prices.now (pair_sums c.args.rights.now) l.i l.sum l.invariant.0 (omega (arith, sums_long (length c.args.rights.now / 2) c.args.rights.now (omega (arith, c.requires.0))))
+returns c =
+    let n = length c.args.rights.now / 2 in
+    let g = priced_at c.args.prices.now (pair_sums c.args.rights.now) in
+    c.loop-i.invariant.0 ∙ ap (λ (k : ℕ). sum_below k g) (le_antisymm c.loop-i.auto.i-end c.loop-i-test.false)
+    ∙ priced_upto n c.args.prices.now (pair_sums c.args.rights.now) (sums_long n c.args.rights.now (omega arith))

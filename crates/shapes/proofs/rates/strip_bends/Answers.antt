@@ -5,4 +5,7 @@ use native.Mathlib.Omega.{arith}
 use Rattle.shapes.proofs.rates.strip_bends.Goals as goal
 
 pub returns : goal.returns
-returns c = (pair_at c.args.rights.now c.args.i, omega (arith, c.shared_slice_known-1.given (c.args.i + c.args.i), c.shared_slice_known-2-1.given (c.args.i + c.args.i + 1)))
+returns c =
+    let low = c.type_inv.rights (c.args.i + c.args.i) in
+    let high = c.type_inv.rights (c.args.i + c.args.i + 1) in
+    (omega (arith, c.from.ensures, c.from-2.ensures, pair_at c.args.rights.now c.args.i), omega (arith, c.from.ensures, c.from-2.ensures, low, high))
