@@ -5,10 +5,9 @@ use mathlib.Core.Bool.{true, false}
 use mathlib.Core.List.{List}
 use Prim.Native.Nat.{ℕ}
 use native.Mathlib.Omega.{arith}
+use Rattle.std.proofs.Common.{Option, Some, None, Result, Ok, Err}
 use Rattle.book.specs.Entries.{has_model, book_fault, entries_of}
-use Rattle.book.specs.Says.{answer_of, number_of, revision_of, IsCurrent, OneCurrent, Books}
-use Rattle.book.specs.declared.Answer.{Answer}
-use Rattle.book.specs.declared.Answer.TheVariants.{Refused, Absent, Current}
+use Rattle.book.specs.Says.{answer_of, revision_of, IsCurrent, OneCurrent, Books}
 use Rattle.book.proofs.Chain.{is_latest, latest_some, listed_has, is_current, only_current, new_model}
 use Rattle.book.proofs.Faults.{first_bad, last_cut, entries_accepted, some_bad}
 use Rattle.book.proofs.Answers.{refused, absent, present, cases}
@@ -24,46 +23,50 @@ one_current s m h p =
       answered = present s m h p;
     }
 
--- which of the three an answer is
-abbrev case_of : Answer → ℕ
-case_of (Refused n) = 0
-case_of Absent = 1
-case_of (Current r) = 2
+-- which of the three an answer is, and the number of a refused one
+abbrev case_of : Result (Option ℕ) ℕ → ℕ
+case_of (Err n) = 0
+case_of (Ok None) = 1
+case_of (Ok (Some r)) = 2
+
+abbrev number_in : Result (Option ℕ) ℕ → ℕ
+number_in (Err n) = n
+number_in (Ok o) = 0
 
 module _ (s : List ℕ) (m : ℕ) where
   -- two answers given are of one case
-  differ : {A : Type 0} (a b : Answer) → (case_of a ≡ case_of b → ⊥) → answer_of s m ≡ a → answer_of s m ≡ b → A
+  differ : {A : Type 0} (a b : Result (Option ℕ) ℕ) → (case_of a ≡ case_of b → ⊥) → answer_of s m ≡ a → answer_of s m ≡ b → A
   differ a b d e f = absurd (d (ap case_of (sym e ∙ f)))
 
-  current_exactly : (r : ℕ) → (answer_of s m ≡ Current r) ↔ ((book_fault s ≡ 0) × IsCurrent m r (entries_of s))
+  current_exactly : (r : ℕ) → (answer_of s m ≡ Ok (Some r)) ↔ ((book_fault s ≡ 0) × IsCurrent m r (entries_of s))
   current_exactly r = (
     λ e. cases s m
-        (λ n. differ (Refused (book_fault s)) (Current r) (λ z. omega arith) (refused s m n) e)
-        (λ h p. differ Absent (Current r) (λ z. omega arith) (absent s m h p) e)
+        (λ n. differ (Err (book_fault s)) (Ok (Some r)) (λ z. omega arith) (refused s m n) e)
+        (λ h p. differ (Ok None) (Ok (Some r)) (λ z. omega arith) (absent s m h p) e)
         (λ h p.
         let one = one_current s m h p in
         (h, subst (λ (q : ℕ). IsCurrent m q (entries_of s)) (ap revision_of (sym one.answered ∙ e)) one.there)),
     λ (h, c).
         let one = one_current s m h (listed_has m r (entries_of s) c.listed) in
-        one.answered ∙ ap Current (sym (one.only r c)),
+        one.answered ∙ ap (λ (q : ℕ). Ok (Some q)) (sym (one.only r c)),
   )
 
-  absent_exactly : (answer_of s m ≡ Absent) ↔ ((book_fault s ≡ 0) × (has_model m (entries_of s) ≡ false))
+  absent_exactly : (answer_of s m ≡ Ok None) ↔ ((book_fault s ≡ 0) × (has_model m (entries_of s) ≡ false))
   absent_exactly = (
     λ e. cases s m
-        (λ n. differ (Refused (book_fault s)) Absent (λ z. omega arith) (refused s m n) e)
+        (λ n. differ (Err (book_fault s)) (Ok None) (λ z. omega arith) (refused s m n) e)
         (λ h p. (h, p))
-        (λ h p. differ Absent (Current _) (λ z. omega arith) e (present s m h p)),
+        (λ h p. differ (Ok None) (Ok (Some _)) (λ z. omega arith) e (present s m h p)),
     λ (h, p). absent s m h p,
   )
 
-  refused_exactly : (n : ℕ) → (answer_of s m ≡ Refused n) ↔ ((book_fault s ≡ n) × (n ≡ 0 → ⊥))
+  refused_exactly : (n : ℕ) → (answer_of s m ≡ Err n) ↔ ((book_fault s ≡ n) × (n ≡ 0 → ⊥))
   refused_exactly n = (
     λ e. cases s m
-        (λ d. let q = ap number_of (sym (refused s m d) ∙ e) in (q, λ z. d (q ∙ z)))
-        (λ h p. differ (Refused n) Absent (λ z. omega arith) e (absent s m h p))
-        (λ h p. differ (Refused n) (Current _) (λ z. omega arith) e (present s m h p)),
-    λ (q, d). refused s m (λ z. d (sym q ∙ z)) ∙ ap Refused q,
+        (λ d. let q = ap number_in (sym (refused s m d) ∙ e) in (q, λ z. d (q ∙ z)))
+        (λ h p. differ (Err n) (Ok None) (λ z. omega arith) e (absent s m h p))
+        (λ h p. differ (Err n) (Ok (Some _)) (λ z. omega arith) e (present s m h p)),
+    λ (q, d). refused s m (λ z. d (sym q ∙ z)) ∙ ap Err q,
   )
 
 pub books : Books

@@ -7,6 +7,7 @@ use Prim.Native.Nat.{ℕ, ◌≤◌, ◌<◌}
 use native.Mathlib.Omega.{arith}
 use lib.Dec.{eqb}
 use lib.ListN.{get_or}
+use Rattle.std.proofs.Common.{Some, None, slice_get}
 use borrow.Author.Tests.{eqb-true, eqb-false, ltb-true, not-false}
 use Rattle.finite.specs.Base.{when, is_in}
 use Rattle.finite.proofs.Tests.{either, not_both, not_true_false, and_left, and_right, or_left_false, or_right_false, first_none, when_none}
@@ -74,8 +75,8 @@ module _ (m : ℕ) where
   pub new_model : (es : List Entry) → has_model m es ≡ false → current m es ≡ 0
   new_model es h = ap (first_not_in (replaced_of m es)) (has_none es h)
 
-  pub latest_none : (es : List Entry) → has_model m es ≡ false → latest m es ≡ 0
-  latest_none es h = ap (λ (xs : List ℕ). get_or xs 0 0) (has_none es h)
+  pub latest_nowhere : (es : List Entry) → has_model m es ≡ false → slice_get (listed_of m es) 0 ≡ None
+  latest_nowhere es h = ap (λ (xs : List ℕ). slice_get xs 0) (has_none es h)
 
   pub listed_has : (r : ℕ) (es : List Entry) → is_in r (listed_of m es) ≡ true → has_model m es ≡ true
   listed_has r es h = ⊎_elim (λ p. p) (λ p. absurd (in_none r (subst (λ (xs : List ℕ). is_in r xs ≡ true) (has_none es p) h))) (either (has_model m es))
@@ -94,6 +95,11 @@ module _ (m : ℕ) where
   module _ (es : List Entry) (h : entries_fault es ≡ 0) where
     pub is_latest : current m es ≡ latest m es
     is_latest = first_found (listed_of m es) (replaced_of m es) (chained es h)
+
+    pub latest_there : has_model m es ≡ true → slice_get (listed_of m es) 0 ≡ Some (current m es)
+    latest_there p =
+        let (x, xs, q) = has_some es p in
+        ap (λ (zs : List ℕ). slice_get zs 0) q ∙ ap Some (ap (λ (zs : List ℕ). get_or zs 0 0) (sym q) ∙ sym is_latest)
 
     pub is_current : has_model m es ≡ true → IsCurrent m (current m es) es
     is_current p =

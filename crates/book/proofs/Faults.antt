@@ -1,46 +1,43 @@
 -- The loop over a book: entries without refusal so far, and the first refusal, which stays the book's however many entries follow.
 use mathlib.Core.Path.{◌≡◌, refl, sym, ap, ◌∙◌}
 use mathlib.Core.Logic.{◌⊎◌, inl, inr, ⊎_elim}
-use mathlib.Core.Bool.{Bool, true, false, ◌&&◌, ◌||◌, not}
-use mathlib.Core.List.{List}
-use Prim.Native.Nat.{ℕ, zero, suc, ◌+◌, ◌*◌, ◌≤◌, ◌<◌, ◌%◌}
+use mathlib.Core.Bool.{Bool, true, false, not}
+use mathlib.Core.List.{List, [], ◌∷◌, ◌++◌}
+use Prim.Native.Nat.{ℕ, zero, suc, ◌+◌, ◌≤◌, ◌<◌, ◌%◌}
 use native.Mathlib.Nat.{add-zero, le_dest}
-use native.Mathlib.Numerals.{add-one}
 use native.Mathlib.Omega.{arith}
-use lib.Dec.{eqb, ltb}
-use lib.ListN.{length}
-use borrow.Author.Tests.{eq-eqb, ne_eqb, ltb-true}
-use Rattle.finite.specs.Base.{first_of, when, is_in, word_at}
-use Rattle.finite.proofs.Tests.{and_left, and_right, equal_or_not, first_none, first_some}
-use Rattle.book.specs.Entries.{entries, listed_of, fault_at, entries_fault, whole, entries_of, book_fault, latest, is_rising, LastRoom}
+use lib.Dec.{eqb}
+use lib.ListN.{length, get_or, take, drop}
+use borrow.Author.Tests.{eq-eqb, ne_eqb}
+use Rattle.finite.specs.Base.{first_of, when, is_in}
+use Rattle.finite.proofs.Tests.{equal_or_not, first_none, first_some}
+use Rattle.book.specs.Entries.{Entry, entries, listed_of, current, entry_fault, fault_at, entries_fault, whole, entries_of, book_fault, latest, entry_of, entries_in, LastRoom}
 use Rattle.book.specs.Says.{FirstBad, LastCut}
 use Rattle.book.proofs.Chain.{is_latest, rising_unlisted}
+use Rattle.book.proofs.Scans.{one_more, parted}
+
+-- where revisions rise, one above the latest is not listed
+pub above_unlisted : {es : List Entry} {m last : ℕ} {rising : Bool} → LastRoom es m last rising → rising ≡ true → {r : ℕ} → last < r → false ≡ is_in r (listed_of m es)
+above_unlisted {es} {m} h u {r} l = sym (rising_unlisted m es h.before (sym h.rises ∙ u) r (omega (arith, h.latest_is, l)))
+
+-- ---- an entry behind others that have no refusal, and whose revision is none of theirs
+module _ (es : List Entry) (e : Entry) (h : entries_fault es ≡ 0) (some : e.revision ≡ 0 → ⊥) (further : is_in e.revision (listed_of e.model es) ≡ false) {last : ℕ} (is : last ≡ latest e.model es) where
+  last_current : last ≡ current e.model es
+  last_current = is ∙ sym (is_latest e.model es h)
+
+  pub not_current : (e.replaced ≡ last → ⊥) → 42 ≡ entry_fault es e
+  not_current n = rw (ne_eqb e.revision 0 some, further, ne_eqb e.replaced (current e.model es) (λ q. n (q ∙ sym last_current)))
+
+  pub no_fault : e.replaced ≡ last → 0 ≡ entry_fault es e
+  no_fault q = rw (ne_eqb e.revision 0 some, further, eq-eqb e.replaced (current e.model es) (q ∙ last_current))
+
+-- ---- a refusal among the first entries is that of all
+pub kept_on : (es fs : List Entry) → (entries_fault fs ≡ 0 → ⊥) → entries_fault (es ++ fs) ≡ entries_fault fs
+kept_on [] fs n = refl
+kept_on (e ∷ es) fs n =
+    first_some (entries_fault (es ++ fs)) (entry_fault (es ++ fs) e) (λ z. n (sym (kept_on es fs n) ∙ z)) ∙ kept_on es fs n
 
 module _ (s : List ℕ) where
-  -- where revisions rise, one above the latest is not listed
-  pub above_unlisted : (n m r last : ℕ) (rising : Bool) → LastRoom s n m last rising → (rising && ltb last r) ≡ true → false ≡ is_in r (listed_of m (entries s n))
-  above_unlisted n m r last rising h a =
-      let u : is_rising (entries s n) ≡ true = sym h.rises ∙ and_left rising (ltb last r) a in
-      let l : last < r = ltb-true last r (and_right rising (ltb last r) a) in
-      sym (rising_unlisted m (entries s n) h.before u r (omega (arith, h.latest_is, l)))
-
-  -- one entry more: whether revisions still rise
-  pub rising_on : (i : ℕ) (rising : Bool) → rising ≡ is_rising (entries s i) → (rising && ltb (word_at s (6 * i + 4)) (word_at s (6 * i + 2))) ≡ is_rising (entries s (i + 1))
-  rising_on i rising e = ap (λ (b : Bool). b && ltb (word_at s (6 * i + 4)) (word_at s (6 * i + 2))) e ∙ ap (λ (k : ℕ). is_rising (entries s k)) (sym (add-one i))
-
-  -- ---- entry i, those before it having no refusal
-  module _ (i : ℕ) (h : entries_fault (entries s i) ≡ 0) where
-    -- its refusal from its words as code holds them, the latest revision being the current one
-    pub fault-by : {m r q : ℕ} → m ≡ word_at s (6 * i) → r ≡ word_at s (6 * i + 2) → q ≡ word_at s (6 * i + 4)
-        → (last : ℕ) → last ≡ latest m (entries s i) → (b : Bool) → b ≡ is_in r (listed_of m (entries s i))
-        → first_of (when (eqb r 0 || b) 41) (when (not (eqb q last)) 42) ≡ fault_at s i
-    fault-by em er eq last el b eb =
-        let l = el ∙ ap (λ (k : ℕ). latest k (entries s i)) em ∙ sym (is_latest (word_at s (6 * i)) (entries s i) h) in
-        λ x. first_of (when (eqb (er x) 0 || (eb ∙ (λ y. is_in (er y) (listed_of (em y) (entries s i)))) x) 41) (when (not (eqb (eq x) (l x))) 42)
-
-    pub fault_on : fault_at s i ≡ 0 → entries_fault (entries s (i + 1)) ≡ 0
-    fault_on e = rw (add-one, h) e
-
   -- ---- the first bad entry decides, however many follow
   module _ (i : ℕ) (h : FirstBad s i) where
     stays : (k : ℕ) → entries_fault (entries s (suc i + k)) ≡ fault_at s i
@@ -84,3 +81,14 @@ module _ (s : List ℕ) where
       (λ z. inr (record { before = z; cut = λ c. d (accepted z c) }))
       (λ m. inl (bad_among (whole s) (omega arith) m))
       (equal_or_not (entries_fault (entries_of s)) 0)
+
+-- ---- the first entry that is refused decides
+pub refused_at : (bs : List (List ℕ)) (i : ℕ) (b : List ℕ) → i < length bs → entries_fault (entries_in (take i bs)) ≡ 0
+    → {n : ℕ} → n ≡ entry_fault (entries_in (take i bs)) (entry_of (get_or bs i b)) → (n ≡ 0 → ⊥) → n ≡ entries_fault (entries_in bs)
+refused_at bs i b l h {n} e d =
+    let here : entries_fault (entries_in (take (i + 1) bs)) ≡ n =
+    ap entries_fault (one_more bs i b l) ∙ ap (λ (k : ℕ). first_of k (entry_fault (entries_in (take i bs)) (entry_of (get_or bs i b)))) h ∙ sym e
+    in
+    sym here
+    ∙ sym (kept_on (entries_in (drop (i + 1) bs)) (entries_in (take (i + 1) bs)) (λ z. d (sym here ∙ z)))
+    ∙ ap entries_fault (sym (parted bs (i + 1)))

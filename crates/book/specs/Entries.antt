@@ -1,11 +1,7 @@
 -- A book of entries: its refusals 40 to 42, and the current revision of a model.
-use Rattle.std.specs.Prelude.{◌≡◌, Bool, true, false, ◌&&◌, ◌||◌, not, List, [], ◌∷◌, ℕ, zero, suc, ◌+◌, ◌*◌, ◌/◌, ◌%◌, ◌≤◌, eqb, ltb, length, get_or}
+use Rattle.std.specs.Prelude.{◌≡◌, Bool, true, false, ◌&&◌, ◌||◌, not, List, [], ◌∷◌, ℕ, zero, suc, ◌+◌, ◌*◌, ◌/◌, ◌%◌, eqb, ltb, length, get_or, map, reverse}
 use Rattle.finite.specs.Base.{pick, first_of, when, is_in, word_at}
-
-pub record Entry : Type 0 where
-  pub model : ℕ
-  pub revision : ℕ
-  pub replaced : ℕ
+pub use Rattle.book.specs.declared.Entry.{Entry}
 
 -- entry i of a book, and its first n entries, the last of them first
 abbrev pub entry_at : List ℕ → ℕ → Entry
@@ -75,15 +71,20 @@ abbrev pub is_rising : List Entry → Bool
 is_rising [] = true
 is_rising (e ∷ es) = is_rising es && ltb e.replaced e.revision
 
--- the first n entries have no refusal; whether they rise, and the revision of a model's last entry among them
-pub record LastRoom (s : List ℕ) (n m last : ℕ) (rising : Bool) : Type 0 where
-  pub inside : 6 * n ≤ length s
-  pub before : entries_fault (entries s n) ≡ 0
-  pub rises : rising ≡ is_rising (entries s n)
-  pub latest_is : last ≡ latest m (entries s n)
+-- six bytes as an entry, and entries that lie in a row, the last of them first
+abbrev pub entry_of : List ℕ → Entry
+entry_of b = record { model = word_at b 0; revision = word_at b 2; replaced = word_at b 4 }
 
--- an entry to be held against those before it, which have no refusal; whether they rise
-pub record EntryRoom (s : List ℕ) (i : ℕ) (rising : Bool) : Type 0 where
-  pub inside : 6 * i + 6 ≤ length s
-  pub before : entries_fault (entries s i) ≡ 0
-  pub rises : rising ≡ is_rising (entries s i)
+abbrev pub entries_in : List (List ℕ) → List Entry
+entries_in bs = map entry_of (reverse bs)
+
+-- entries without refusal; whether they rise, and the revision of a model's last entry among them
+pub record LastRoom (es : List Entry) (m last : ℕ) (rising : Bool) : Type 0 where
+  pub before : entries_fault es ≡ 0
+  pub rises : rising ≡ is_rising es
+  pub latest_is : last ≡ latest m es
+
+-- entries without refusal, against which one more is held; whether they rise
+pub record EntryRoom (es : List Entry) (rising : Bool) : Type 0 where
+  pub before : entries_fault es ≡ 0
+  pub rises : rising ≡ is_rising es

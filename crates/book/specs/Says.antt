@@ -1,38 +1,38 @@
 -- What the call answers, and document 02's sentences on books.
-use Rattle.std.specs.Prelude.{◌≡◌, ◌↔◌, ◌⊎◌, true, false, List, [], ◌∷◌, ℕ, ◌<◌, ◌%◌, eqb, length}
+use Rattle.std.specs.Prelude.{◌≡◌, ◌↔◌, ◌⊎◌, true, false, List, [], ◌∷◌, ℕ, ◌<◌, ◌%◌, eqb, length, Option, Some, None, Result, Ok, Err}
+use Rattle.std.specs.Result.{result_map_both}
 use Rattle.finite.specs.Base.{pick, is_in}
+use Rattle.refusals.specs.declared.Refusal.{Refusal}
+use Rattle.refusals.specs.Numbers.{number_of, fault_of}
 use Rattle.book.specs.Entries.{Entry, entries, has_model, listed_of, replaced_of, current, fault_at, entries_fault, whole, entries_of, book_fault}
-use Rattle.book.specs.declared.Answer.{Answer}
-use Rattle.book.specs.declared.Answer.TheVariants.{Refused, Absent, Current}
 
--- the answer for model m: the book's refusal, that the model is not there, or its current revision
-abbrev pub answer_of : List ℕ → ℕ → Answer
+-- the answer for model m: the number of the book's refusal, that the model is not there, or its current revision
+abbrev pub answer_of : List ℕ → ℕ → Result (Option ℕ) ℕ
 answer_of s m =
     pick (eqb (book_fault s) 0)
-    (pick (has_model m (entries_of s)) (Current (current m (entries_of s))) Absent)
-    (Refused (book_fault s))
+    (Ok (pick (has_model m (entries_of s)) (Some (current m (entries_of s))) None))
+    (Err (book_fault s))
 
--- the number and the values of each case: 0 is no refusal
-abbrev pub number_of : Answer → ℕ
-number_of (Refused n) = n
-number_of Absent = 0
-number_of (Current r) = 0
+-- an answer with its refusal's number in place of the refusal
+abbrev pub numbered : Result (Option ℕ) Refusal → Result (Option ℕ) ℕ
+numbered a = result_map_both (λ o. o) number_of a
 
-abbrev pub revisions_of : Answer → List ℕ
-revisions_of (Refused n) = []
-revisions_of Absent = []
-revisions_of (Current r) = r ∷ []
+-- the values of each case
+abbrev pub revisions_of : {E : Type 0} → Result (Option ℕ) E → List ℕ
+revisions_of (Err e) = []
+revisions_of (Ok None) = []
+revisions_of (Ok (Some r)) = r ∷ []
 
-pub record AnswerIs (s : List ℕ) (m : ℕ) (a : Answer) : Type 0 where
-  pub answer : a ≡ answer_of s m
-  pub number : number_of a ≡ book_fault s
+pub record AnswerIs (s : List ℕ) (m : ℕ) (a : Result (Option ℕ) Refusal) : Type 0 where
+  pub answer : numbered a ≡ answer_of s m
+  pub number : fault_of a ≡ book_fault s
   pub revisions : revisions_of a ≡ revisions_of (answer_of s m)
 
 -- the same as a number and a revision, 0 where there is none
-abbrev pub revision_of : Answer → ℕ
-revision_of (Refused n) = 0
-revision_of Absent = 0
-revision_of (Current r) = r
+abbrev pub revision_of : {E : Type 0} → Result (Option ℕ) E → ℕ
+revision_of (Err e) = 0
+revision_of (Ok None) = 0
+revision_of (Ok (Some r)) = r
 
 pub record RevisionIs (s : List ℕ) (m number revision : ℕ) : Type 0 where
   pub refusal : number ≡ book_fault s
@@ -48,7 +48,7 @@ pub record OneCurrent (s : List ℕ) (m : ℕ) : Type 0 where
   pub there : IsCurrent m (current m (entries_of s)) (entries_of s)
   pub only : (r : ℕ) → IsCurrent m r (entries_of s) → r ≡ current m (entries_of s)
   pub some : current m (entries_of s) ≡ 0 → ⊥
-  pub answered : answer_of s m ≡ Current (current m (entries_of s))
+  pub answered : answer_of s m ≡ Ok (Some (current m (entries_of s)))
 
 -- entry i has a refusal, and those before it have none
 pub record FirstBad (s : List ℕ) (i : ℕ) : Type 0 where
@@ -71,6 +71,6 @@ pub record Books : Type 0 where
   -- the current revision of a new model is 0, so that this is what its first entry must replace
   pub new_model : (m : ℕ) (es : List Entry) → has_model m es ≡ false → current m es ≡ 0
   -- each answer is given exactly in its case
-  pub current_exactly : (s : List ℕ) (m r : ℕ) → (answer_of s m ≡ Current r) ↔ ((book_fault s ≡ 0) × IsCurrent m r (entries_of s))
-  pub absent_exactly : (s : List ℕ) (m : ℕ) → (answer_of s m ≡ Absent) ↔ ((book_fault s ≡ 0) × (has_model m (entries_of s) ≡ false))
-  pub refused_exactly : (s : List ℕ) (m n : ℕ) → (answer_of s m ≡ Refused n) ↔ ((book_fault s ≡ n) × (n ≡ 0 → ⊥))
+  pub current_exactly : (s : List ℕ) (m r : ℕ) → (answer_of s m ≡ Ok (Some r)) ↔ ((book_fault s ≡ 0) × IsCurrent m r (entries_of s))
+  pub absent_exactly : (s : List ℕ) (m : ℕ) → (answer_of s m ≡ Ok None) ↔ ((book_fault s ≡ 0) × (has_model m (entries_of s) ≡ false))
+  pub refused_exactly : (s : List ℕ) (m n : ℕ) → (answer_of s m ≡ Err n) ↔ ((book_fault s ≡ n) × (n ≡ 0 → ⊥))

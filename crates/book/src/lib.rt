@@ -1,144 +1,110 @@
 //! A book of entries, each a model, a revision and the revision replaced: the current revision of a model.
 #![tactic(auto)]
 
-ghost use Rattle.std.specs.Prelude.{◌≡◌, ◌&&◌, ◌||◌, not, ◌+◌, ◌*◌, ◌≤◌, eqb, ltb, length};
-ghost use Rattle.finite.specs.Base.{first_of, when, is_in, word_at};
-ghost use Rattle.book.specs.Entries.{entries, listed_of, fault_at, latest, LastRoom, EntryRoom};
+ghost use Rattle.std.specs.Prelude.{◌≡◌, ◌==◌, ◌&&◌, find, slice_get};
+ghost use Rattle.std.specs.List.{list_any};
+ghost use Rattle.finite.specs.Base.{is_in};
+ghost use Rattle.refusals.specs.Numbers.{fault_of};
+ghost use Rattle.book.specs.Entries.{entry_of, entries_in, listed_of, entry_fault, entries_fault, LastRoom, EntryRoom};
 ghost use Rattle.book.specs.Says.{AnswerIs};
 
-// The current revision, or that the model is not there; a refused book gives its number alone.
+use refusals::Refusal;
+
 #[derive(Clone, Copy)]
-pub enum Answer {
-    Refused(u8),
-    Absent,
-    Current(u16),
+struct Entry {
+    model: u16,
+    revision: u16,
+    replaced: u16,
 }
 
-fn wide(b: u8) -> u16
-    ensures { result ≡ b }
-{
-    b as u16
-}
+// Six bytes: three numbers, each high byte first.
+impl From<[u8; 6]> for Entry {
+    ghost from_gives = { λ bytes entry. entry ≡ entry_of bytes };
 
-// Two bytes as a number, high byte first.
-fn word_at(book: &[u8], at: usize) -> u16
-    requires { at + 2 ≤ length book.now }
-    ensures { result ≡ word_at book.now at }
-{
-    256 * wide(book[at]) + wide(book[at + 1])
-}
-
-// Whether the first `n` entries list this revision of the model.
-fn is_listed(book: &[u8], n: usize, model: u16, revision: u16) -> bool
-    requires { 6 * n ≤ length book.now }
-    ensures { result ≡ is_in revision (listed_of model (entries book.now n)) }
-{
-    let mut i = n;
-    while i > 0 {
-        i -= 1;
-        if word_at(book, 6 * i) == model {
-            if word_at(book, 6 * i + 2) == revision {
-                return true;
-            }
+    fn from([a, b, c, d, e, f]: [u8; 6]) -> Entry {
+        Entry {
+            model: u16::from_be_bytes([a, b]),
+            revision: u16::from_be_bytes([c, d]),
+            replaced: u16::from_be_bytes([e, f]),
         }
     }
-    false
 }
 
-// The last revision of the model among the first `n` entries; 0 where there is none.
-fn latest_of(book: &[u8], n: usize, model: u16) -> u16
-    requires { 6 * n ≤ length book.now }
-    ensures { result ≡ latest model (entries book.now n) }
+// Whether some entry is of the model and lists this revision; the last are most likely to.
+fn is_listed(before: &[[u8; 6]], model: u16, revision: u16) -> bool
+    ensures { result ≡ list_any (λ e. (e.model == model) && (e.revision == revision)) (entries_in before.now) }
 {
-    let mut i = n;
-    while i > 0 {
-        i -= 1;
-        if word_at(book, 6 * i) == model {
-            return word_at(book, 6 * i + 2);
-        }
-    }
-    0
+    before
+        .iter()
+        .rev()
+        .map(|bytes| Entry::from(*bytes))
+        .any(|e| e.model == model && e.revision == revision)
 }
 
-// Whether revisions rise so far, and this one is above the last.
-fn is_above(rising: bool, revision: u16, last: u16) -> bool
-    ensures { result ≡ (rising && ltb last revision) }
+// The last entry of the model.
+fn last_of(before: &[[u8; 6]], model: u16) -> Option<Entry>
+    ensures { result ≡ find (λ e. e.model == model) (entries_in before.now) }
 {
-    if rising {
-        return last < revision;
-    }
-    false
+    before
+        .iter()
+        .rev()
+        .map(|bytes| Entry::from(*bytes))
+        .find(|e| e.model == model)
 }
 
-// Whether the first `n` entries list this revision of the model, of which `last` is the last. Where revisions rise, one above it is not listed.
-fn is_repeated(book: &[u8], n: usize, model: u16, revision: u16, last: u16, rising: bool) -> bool
-    requires { LastRoom book.now n model last rising }
-    ensures { result ≡ is_in revision (listed_of model (entries book.now n)) }
+// The last revision of the model.
+fn latest_of(before: &[[u8; 6]], model: u16) -> Option<u16>
+    ensures { result ≡ slice_get (listed_of model (entries_in before.now)) 0 }
 {
-    if is_above(rising, revision, last) {
+    last_of(before, model).map(|last| last.revision)
+}
+
+// Whether some of these entries, of which `latest` is the model's last revision, list that of the entry. Where revisions rise, one above the last is not listed.
+fn is_repeated(before: &[[u8; 6]], entry: Entry, latest: u16, rising: bool) -> bool
+    requires { LastRoom (entries_in before.now) entry.model latest rising }
+    ensures { result ≡ is_in entry.revision (listed_of entry.model (entries_in before.now)) }
+{
+    if rising && latest < entry.revision {
         return false;
     }
-    is_listed(book, n, model, revision)
+    is_listed(before, entry.model, entry.revision)
 }
 
-// The refusal of an entry, given whether its revision is listed already and the current one of its model.
-fn fault_of(revision: u16, repeated: bool, replaced: u16, current: u16) -> u8
-    ensures { result ≡ first_of (when (eqb revision 0 || repeated) 41) (when (not (eqb replaced current)) 42) }
+// Refuses an entry against those before it, which have no refusal. The first of a model replaces 0.
+fn check_entry(before: &[[u8; 6]], entry: Entry, rising: bool) -> Result<(), Refusal>
+    requires { EntryRoom (entries_in before.now) rising }
+    ensures { fault_of result ≡ entry_fault (entries_in before.now) entry }
 {
-    if revision == 0 {
-        return 41;
+    let latest = latest_of(before, entry.model).unwrap_or(0);
+    if entry.revision == 0 || is_repeated(before, entry, latest, rising) {
+        return Err(Refusal::RevisionListed);
     }
-    if repeated {
-        return 41;
+    if entry.replaced != latest {
+        return Err(Refusal::NotCurrent);
     }
-    if replaced != current {
-        return 42;
-    }
-    0
+    Ok(())
 }
 
-// The refusal of entry `i`, those before it having none.
-fn entry_fault(book: &[u8], i: usize, rising: bool) -> u8
-    requires { EntryRoom book.now i rising }
-    ensures { result ≡ fault_at book.now i }
+fn check_entries(entries: &[[u8; 6]]) -> Result<(), Refusal>
+    ensures { fault_of result ≡ entries_fault (entries_in entries.now) }
 {
-    let model = word_at(book, 6 * i);
-    let revision = word_at(book, 6 * i + 2);
-    let replaced = word_at(book, 6 * i + 4);
-    let last = latest_of(book, i, model);
-    let repeated = is_repeated(book, i, model, revision, last, rising);
-    fault_of(revision, repeated, replaced, last)
+    let mut rising = true;
+    for (i, bytes) in entries.iter().enumerate() {
+        let entry = Entry::from(*bytes);
+        check_entry(&entries[..i], entry, rising)?;
+        rising &= entry.replaced < entry.revision;
+    }
+    Ok(())
 }
 
-// Whether revisions rise in entry `i` too.
-fn still_rising(book: &[u8], i: usize, rising: bool) -> bool
-    requires { 6 * i + 6 ≤ length book.now }
-    ensures { result ≡ (rising && ltb (word_at book.now (6 * i + 4)) (word_at book.now (6 * i + 2))) }
-{
-    is_above(rising, word_at(book, 6 * i + 2), word_at(book, 6 * i + 4))
-}
-
-// The current revision of a model, the one that no entry of that model replaces, in a book that is checked whole.
-pub fn current_revision(book: &[u8], model: u16) -> Answer
+// The current revision of a model, the one that no entry of that model replaces, in a book that is checked whole; none where the model is not there.
+pub fn current_revision(book: &[u8], model: u16) -> Result<Option<u16>, Refusal>
     ensures { AnswerIs book.now model result }
 {
-    let n = book.len() / 6;
-    let mut rising = true;
-    let mut i = 0;
-    while i < n {
-        let number = entry_fault(book, i, rising);
-        if number != 0 {
-            return Answer::Refused(number);
-        }
-        rising = still_rising(book, i, rising);
-        i += 1;
+    let (entries, rest) = book.as_chunks::<6>();
+    check_entries(entries)?;
+    if !rest.is_empty() {
+        return Err(Refusal::EntryCut);
     }
-    if book.len() % 6 != 0 {
-        return Answer::Refused(40);
-    }
-    let revision = latest_of(book, n, model);
-    if revision == 0 {
-        return Answer::Absent;
-    }
-    Answer::Current(revision)
+    Ok(latest_of(entries, model))
 }

@@ -1,35 +1,20 @@
 //! For the programs: lines to standard output, and files that arguments name.
 #![tactic(auto)]
 
-ghost use Rattle.std.specs.Prelude.{◌≤◌, length, IfOk, IfSome};
+ghost use Rattle.std.specs.Prelude.{◌≡◌, ◌≤◌, length, IfOk, IfSome};
+ghost use Rattle.console.specs.Decimals.{decimal_in};
 
 use std::env::FillError;
 use std::io::Read;
 use std::rt::{Env, Files};
 use std::{fs, io, str};
 
-pub fn say(rt: &impl Print, text: &[u8]) -> io::Result<()> {
-    rt.write_all(text)
-}
-
-// Prints a word and a number.
-pub fn say_counted(rt: &impl Print, word: &[u8], number: u64) -> io::Result<()> {
-    say(rt, word)?;
-    print!(rt; "{number}")
-}
-
-// Prints a line: a word and a number.
-pub fn say_number(rt: &impl Print, word: &[u8], number: u64) -> io::Result<()> {
-    say(rt, word)?;
-    println!(rt; "{number}")
-}
-
 // Prints a line: what is meant, what is wrong with it, and its name where one was given.
 pub fn complain(rt: &impl Print, which: &[u8], wrong: &[u8], name: &[u8]) -> io::Result<()> {
-    say(rt, which)?;
-    say(rt, wrong)?;
-    say(rt, name)?;
-    say(rt, b"\n")
+    rt.write_all(which)?;
+    rt.write_all(wrong)?;
+    rt.write_all(name)?;
+    rt.write_all(b"\n")
 }
 
 // Puts an argument at the start of `buf` and gives its length. One that does not fit counts as empty.
@@ -43,28 +28,24 @@ pub fn argument(rt: &impl Env, place: usize, buf: &mut [u8]) -> Option<usize>
     }
 }
 
-// Opens a file, to be written anew or to be read. A name that is not UTF-8 opens nothing.
-fn open_path<R: Files>(rt: &R, path: &[u8], is_written: bool) -> Option<R::File> {
-    let path = str::from_utf8(path).ok()?;
-    if is_written {
-        return fs::create(rt, path).ok();
-    }
-    fs::open(rt, path).ok()
-}
-
-// Opens the file that argument `place` names, or says why it cannot and gives none.
-fn open_argument<R: Print + Env + Files>(
+// Opens the file that argument `place` names, or says why it cannot and gives none. A name that is not UTF-8 opens nothing.
+fn open_argument<R: Print + Env + Files, F: FnOnce(&R, &str) -> io::Result<R::File>>(
     rt: &R,
     place: usize,
     which: &[u8],
-    is_written: bool,
-) -> io::Result<Option<R::File>> {
+    opener: F,
+) -> io::Result<Option<R::File>>
+    requires { F.IsAlwaysCallable opener }
+{
     let mut name = [0u8; 4096];
     let Some(n) = argument(rt, place, &mut name) else {
         complain(rt, which, b": no name given", b"")?;
         return Ok(None);
     };
-    let file = open_path(rt, &name[..n], is_written);
+    let file = match str::from_utf8(&name[..n]) {
+        Ok(path) => opener(rt, path).ok(),
+        Err(_) => None,
+    };
     if file.is_none() {
         complain(rt, which, b": cannot open ", &name[..n])?;
     }
@@ -76,7 +57,7 @@ pub fn open_named<R: Print + Env + Files>(
     place: usize,
     which: &[u8],
 ) -> io::Result<Option<R::File>> {
-    open_argument(rt, place, which, false)
+    open_argument(rt, place, which, |rt, path| fs::open(rt, path))
 }
 
 // The same for a file to write, which is emptied.
@@ -85,7 +66,7 @@ pub fn open_to_write<R: Print + Env + Files>(
     place: usize,
     which: &[u8],
 ) -> io::Result<Option<R::File>> {
-    open_argument(rt, place, which, true)
+    open_argument(rt, place, which, |rt, path| fs::create(rt, path))
 }
 
 // At the end of a file that can be read a further read gives 0. Of a folder every read fails.
@@ -103,6 +84,7 @@ pub fn read_full(from: &mut impl Read, buf: &mut [u8]) -> io::Result<usize>
     ensures { IfOk result (λ n. n ≤ length buf.new) }
 {
     let mut done = 0;
+    // A while: each read gives as many bytes as it has, so no iterator gives the places.
     while done < buf.len() {
         let n = from.read(&mut buf[done..])?;
         if n == 0 {
@@ -130,4 +112,21 @@ pub fn read_named(
         return Ok(None);
     }
     Ok(Some(n))
+}
+
+// The number that decimal digits stand for; one above 65,536 counts as 65,536. `parse` would take a plus sign, and refuse a larger number.
+pub fn decimal(digits: &[u8]) -> Option<u32>
+    ensures { result ≡ decimal_in digits.now }
+{
+    if digits.is_empty() {
+        return None;
+    }
+    let mut value = 0;
+    for digit in digits {
+        if !digit.is_ascii_digit() {
+            return None;
+        }
+        value = (10 * value + u32::from(*digit - b'0')).min(65536);
+    }
+    Some(value)
 }

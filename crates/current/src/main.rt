@@ -4,50 +4,24 @@
 ghost use Rattle.std.specs.Prelude.{◌≡◌};
 ghost use Rattle.current.specs.Numbers.{number_in};
 
-use book::{Answer, current_revision};
-use console::{argument, complain, open_named, read_named, say, say_number};
+use book::current_revision;
+use console::{argument, complain, decimal, open_named, read_named};
 use std::io;
 use std::io::Read;
 use std::rt::Env;
 
-#[derive(Clone, Copy)]
-enum Model {
-    Number(u16),
-    NoNumber,
-}
-
 // The number that decimal digits stand for, up to 65,535.
-fn read_number(digits: &[u8]) -> Model
+fn read_number(digits: &[u8]) -> Option<u16>
     ensures { result ≡ number_in digits.now }
 {
-    if digits.len() == 0 {
-        return Model::NoNumber;
-    }
-    let mut value = 0u32;
-    let mut i = 0;
-    while i < digits.len() {
-        let digit = digits[i];
-        if digit < b'0' {
-            return Model::NoNumber;
-        }
-        if digit > b'9' {
-            return Model::NoNumber;
-        }
-        value = 10 * value + (digit - b'0') as u32;
-        if value > 65535 {
-            return Model::NoNumber;
-        }
-        i += 1;
-    }
-    Model::Number(value as u16)
+    u16::try_from(decimal(digits)?).ok()
 }
 
 fn show(rt: &impl Print, book: &[u8], model: u16) -> io::Result<()> {
-    let answer = current_revision(book, model);
-    match answer {
-        Answer::Refused(number) => say_number(rt, b"refused ", number as u64),
-        Answer::Absent => say(rt, b"absent\n"),
-        Answer::Current(revision) => say_number(rt, b"revision ", revision as u64),
+    match current_revision(book, model) {
+        Ok(Some(revision)) => println!(rt; "revision {revision}"),
+        Ok(None) => println!(rt; "absent"),
+        Err(refusal) => println!(rt; "{refusal}"),
     }
 }
 
@@ -64,17 +38,19 @@ fn show_file(rt: &impl Print, file: &mut impl Read, model: u16) -> io::Result<()
 }
 
 // An argument that is not there is no number.
-fn read_model(rt: &impl Env) -> Model {
+fn read_model(rt: &impl Env) -> Option<u16> {
     let mut digits = [0u8; 4096];
-    let n = argument(rt, 2, &mut digits).unwrap_or(0);
+    let n = argument(rt, 2, &mut digits)?;
     read_number(&digits[..n])
 }
 
 fn main(rt: HostRuntime) -> io::Result<()> {
     let file = open_named(&rt, 1, b"book")?;
-    match (read_model(&rt), file) {
-        (Model::Number(number), Some(mut file)) => show_file(&rt, &mut file, number),
-        (Model::Number(_), None) => Ok(()),
-        (Model::NoNumber, _) => complain(&rt, b"model", b": no number up to 65535 given", b""),
+    let Some(model) = read_model(&rt) else {
+        return complain(&rt, b"model", b": no number up to 65535 given", b"");
+    };
+    match file {
+        Some(mut file) => show_file(&rt, &mut file, model),
+        None => Ok(()),
     }
 }
