@@ -1,6 +1,7 @@
 -- Arrays that begin with a list: written behind it, and the places of elements, for the steps of the journal.
 use mathlib.Core.Path.{◌≡◌, refl, sym, ap, subst, ◌∙◌}
 use mathlib.Core.Bool.{true}
+use Rattle.std.proofs.Common.{Result}
 use mathlib.Core.List.{List, [], ◌∷◌, ◌++◌, append-nil, append_assoc}
 use mathlib.Core.Logic.{⊎_elim}
 use Prim.Native.Nat.{ℕ, suc, ◌+◌, ◌-◌, ◌*◌, ◌≤◌, ◌<◌}
@@ -9,14 +10,15 @@ use lib.ListN.{length, get_or, take, drop, set, length-set, length-append, lengt
 use lib.Seq.{take_all, take-suc, take-suc-set, take-set-lt, length-take-le}
 use Rattle.finite.proofs.Tests.{either, equal_or_not, not_true_false}
 use Rattle.embedding.specs.Plates.{is_in, distinct, Plate, plate}
-use Rattle.embedding.specs.Read.{place_of, Accepted, Stands, Reads}
+use Rattle.embedding.specs.Read.{place_of, Reads}
 use Rattle.embedding.specs.Edits.{laid, put_before, renamed}
 use Rattle.embedding.specs.Arrays.{Front, Appended, row_in, Listed}
-use Rattle.embedding.specs.declared.Reading.{Reading}
+use Rattle.refusals.specs.declared.Refusal.{Refusal}
+use Rattle.embedding.specs.declared.Plate.{Plate as Held}
 use Rattle.embedding.proofs.Fronts.{front}
 use Rattle.embedding.proofs.Placing.{put_none}
 use Rattle.embedding.proofs.Flat.{place_none, place_some, put_placed, renamed_none, renamed_placed}
-use Rattle.embedding.proofs.Answers.{place_hit, place_miss, read_stands}
+use Rattle.embedding.proofs.Answers.{place_hit, place_miss}
 
 pub front_none : (xs : List ℕ) → length xs ≡ 256 → Front [] xs
 front_none xs e = record { size = e; front = refl }
@@ -143,12 +145,7 @@ laying_more {places} {degrees} {v} {at} {all} {more} h few size room degree from
 plate_same : (p : Plate) {n x : ℕ} {e o : List ℕ} → p.posts ≡ n → p.ends ≡ e → p.order ≡ o → p.outer ≡ x → plate n e o x ≡ p
 plate_same p a b c d = λ i. record { posts = sym a i; ends = sym b i; order = sym c i; outer = sym d i }
 
-pub listed_read : (p : Plate) (n x k : ℕ) {ends order : List ℕ} {r : Reading} → p.posts ≡ n → p.outer ≡ x → Listed p k ends order → Accepted p
-    → Reads (plate n (take k ends) (take k order) x) r → (r.number ≡ 0) × Stands r.plate p
-listed_read p n x k {ends} {order} {r} a d l h reads = (number, read_stands p r same number)
-  where
-    same : Reads p r
-    same = subst (λ (q : Plate). Reads q r) (plate_same p a (sym (front_take l.ends_front l.ends_long)) (sym (front_take l.order_front l.order_long)) d) reads
-
-    number : r.number ≡ 0
-    number = same.number ∙ h.no_fault
+pub listed_read : (p : Plate) (n x k : ℕ) {ends order : List ℕ} {r : Result Held Refusal} → p.posts ≡ n → p.outer ≡ x → Listed p k ends order
+    → Reads (plate n (take k ends) (take k order) x) r → Reads p r
+listed_read p n x k {ends} {order} {r} a d l =
+    subst (λ (q : Plate). Reads q r) (plate_same p a (sym (front_take l.ends_front l.ends_long)) (sym (front_take l.order_front l.order_long)) d)
