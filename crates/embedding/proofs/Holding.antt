@@ -81,10 +81,6 @@ module _ {p : Plate} {posts count : ℕ} {ends places degrees : List ℕ} {outer
   pub held_end : (i : ℕ) → i < count → get_or ends i 0 ≡ get_or p.ends i 0
   held_end i k = s.strip_ends.at i (omega (arith, held_darts))
 
-  -- the order array
-  order_front : {order : List ℕ} → Front (laid posts (row_in places degrees)) order → Front p.order order
-  order_front = front_same held_order
-
   order_long : length p.order ≡ count
   order_long = f.all_ordered ∙ sym s.dart_count
 
@@ -107,7 +103,7 @@ module _ {p : Plate} {posts count : ℕ} {ends places degrees : List ℕ} {outer
         (laid_renamed (part_of p) (suc (2 * t)) (suc (darts p)) p.posts ∙ ap (renamed (suc (2 * t)) (suc (darts p))) (order_laid p o))
 
     pub split_listed : (back next last end n : ℕ) {order ren new_order new-ends : List ℕ} → back ≡ suc (2 * t) → next ≡ suc (darts p) → last ≡ suc (suc (darts p)) → end ≡ get_or ends back 0 → n ≡ p.posts
-        → Front (laid posts (row_in places degrees)) order
+        → Front p.order order
         → ((m : List ℕ) → Front m order → length m ≡ count → distinct m ≡ true → Front (renamed back next m) ren)
         → Appended count (back ∷ (count ∷ [])) ren new_order
         → Appended count (n ∷ (end ∷ [])) (set ends back n) new-ends
@@ -127,7 +123,7 @@ module _ {p : Plate} {posts count : ℕ} {ends places degrees : List ℕ} {outer
         ends_now = c4 (set p.ends back n) (front_set back n held_ends (omega (arith, s.dart_count))) (omega (arith, length-set p.ends back n, s.dart_count))
 
         order_now : Front (renamed back next p.order ++ (back ∷ (count ∷ []))) new_order
-        order_now = c3 (renamed back next p.order) (c2 p.order (order_front front) order_long (order_once p o)) (renamed_long back next p.order ∙ order_long)
+        order_now = c3 (renamed back next p.order) (c2 p.order front order_long (order_once p o)) (renamed_long back next p.order ∙ order_long)
 
   -- the twin of a dart stands in the order
   in_order : (d : ℕ) → d < darts p → is_in (twin d) p.order ≡ true
@@ -149,7 +145,7 @@ module _ {p : Plate} {posts count : ℕ} {ends places degrees : List ℕ} {outer
     put_now = put_long (twin d) (darts p) p.order (in_order d dl) ∙ ap suc f.all_ordered
 
     pub hang_listed : (t v next last n : ℕ) {order with new_order new-ends : List ℕ} → t ≡ twin d → v ≡ get_or ends t 0 → next ≡ suc (darts p) → last ≡ suc (suc (darts p)) → n ≡ p.posts
-        → Front (laid posts (row_in places degrees)) order
+        → Front p.order order
         → Front (put_before t count (take count order)) with
         → Appended next (next ∷ []) with new_order
         → Appended count (v ∷ (n ∷ [])) ends new-ends
@@ -167,7 +163,7 @@ module _ {p : Plate} {posts count : ℕ} {ends places degrees : List ℕ} {outer
 
         put_front : Front (put_before (twin d) (darts p) p.order) with
         put_front =
-            front_same (ap₂ (λ (x y : ℕ). put_before x y (take count order)) et s.dart_count ∙ ap (put_before (twin d) (darts p)) (front_take (order_front front) order_long)) c2
+            front_same (ap₂ (λ (x y : ℕ). put_before x y (take count order)) et s.dart_count ∙ ap (put_before (twin d) (darts p)) (front_take front order_long)) c2
 
   -- join
   module _ (d e : ℕ) (l : d < count) (k : e < count) where
@@ -196,7 +192,7 @@ module _ {p : Plate} {posts count : ℕ} {ends places degrees : List ℕ} {outer
     whole_long = put_long (twin d) (darts p) half_order (put_is_in (twin e) (suc (darts p)) p.order (twin d) t_not ∙ in_order d jd) ∙ ap suc half_long
 
     pub join_listed : (t u next last : ℕ) {order half new_order new-ends : List ℕ} → t ≡ twin d → u ≡ twin e → next ≡ suc (darts p) → last ≡ suc (suc (darts p))
-        → Front (laid posts (row_in places degrees)) order
+        → Front p.order order
         → Front (put_before u next (take count order)) half
         → Front (put_before t count (take next half)) new_order
         → Appended count (get_or ends t 0 ∷ (get_or ends u 0 ∷ [])) ends new-ends
@@ -214,4 +210,4 @@ module _ {p : Plate} {posts count : ℕ} {ends places degrees : List ℕ} {outer
 
         half_front : Front half_order half
         half_front =
-            front_same (ap₂ (λ (x y : ℕ). put_before x y (take count order)) eu en ∙ ap (put_before (twin e) (suc (darts p))) (front_take (order_front front) order_long)) c2
+            front_same (ap₂ (λ (x y : ℕ). put_before x y (take count order)) eu en ∙ ap (put_before (twin e) (suc (darts p))) (front_take front order_long)) c2

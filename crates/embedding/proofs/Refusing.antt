@@ -1,17 +1,20 @@
 -- Refusals 35 to 37 of a step, from tests of the plate as held; the verdict of a step.
 use mathlib.Core.Path.{◌≡◌, refl, sym, ap, subst, ◌∙◌}
 use mathlib.Core.Bool.{Bool, true, false, ◌||◌, not}
-use Prim.Native.Nat.{ℕ, ◌+◌, ◌/◌, ◌≤◌, ◌<◌}
+use Prim.Native.Nat.{ℕ, suc, ◌+◌, ◌/◌, ◌≤◌, ◌<◌}
 use native.Mathlib.Omega.{arith}
-use borrow.Author.Tests.{eqb-true, eq-eqb, ne_eqb, ltb-true, ltb-false, leb-true, leb-false, le-leb, lt-leb}
+use borrow.Author.Tests.{eqb-true, eq-eqb, ne_eqb, ltb-true, ltb-false, lt-ltb, le-ltb, le-leb, lt-leb}
 use lib.Dec.{eqb, ltb, leb}
 use lib.ListN.{get_or}
 use Rattle.finite.proofs.Tables.{up_below}
-use Rattle.finite.proofs.Tests.{same_test, not_both, or_left_false, or_right_false}
+use Rattle.finite.proofs.Tests.{same_test, not_both, first_assoc}
 use Rattle.embedding.specs.Plates.{first_of, when, is_in, Plate, darts, strips, twin, ends_at, degree, face_of, faces}
-use Rattle.embedding.specs.Read.{meant, Stands, Accepted, lead, place_of, face_number}
-use Rattle.embedding.specs.Edits.{no_strip, taken, full, no_face, split_fault, hang_fault, join_fault}
+use Rattle.embedding.specs.Read.{meant, Stands, Reads, Accepted, lead, place_of, face_number}
+use Rattle.embedding.specs.Edits.{no_post, no_strip, taken, full, no_face, hang_fault, join_fault}
+use Rattle.embedding.specs.Journal.{SteppedTo}
 use Rattle.embedding.specs.declared.Plate.{Plate as Held}
+use Rattle.refusals.specs.declared.Refusal.{Refusal}
+use Rattle.std.proofs.Common.{Result}
 use Rattle.embedding.proofs.Rotation.{Ordered, twin_dart}
 use Rattle.embedding.proofs.Totals.{ends_at_below}
 use Rattle.embedding.proofs.Faces.{lead_of_face, lead_face, lead_in_face, face_same}
@@ -21,14 +24,23 @@ use Rattle.embedding.proofs.Joining.{taken_both, taken_one}
 use Rattle.embedding.proofs.Editing.{accepted_ordered}
 use Rattle.embedding.proofs.Holding.{held_darts, held_degree, held_end}
 
-four_or_less : (x : ℕ) → leb x 4 ≡ not (ltb 4 x)
-four_or_less x = by (leb x 4) (ltb 4 x) refl refl
+pub was_false : {r b : Bool} → r ≡ not b → r ≡ true → b ≡ false
+was_false {r} {b} e h = by b (sym e ∙ h)
   where
-    by : (a b : Bool) → leb x 4 ≡ a → ltb 4 x ≡ b → a ≡ not b
-    by true true e h = absurd (omega (arith, leb-true x 4 e, ltb-true 4 x h))
-    by true false e h = refl
-    by false true e h = refl
-    by false false e h = absurd (omega (arith, leb-false x 4 e, ltb-false 4 x h))
+    by : (b : Bool) → not b ≡ true → b ≡ false
+    by true h = absurd (not_both h refl)
+    by false h = refl
+
+not_below : (d n : ℕ) → not (ltb d n) ≡ leb n d
+not_below d n = by (ltb d n) refl
+  where
+    by : (b : Bool) → ltb d n ≡ b → not b ≡ leb n d
+    by true e = sym (lt-leb n d (ltb-true d n e))
+    by false e = sym (le-leb n d (ltb-false d n e))
+
+or_when : (a b : Bool) (n : ℕ) → when (a || b) (suc n) ≡ first_of (when a (suc n)) (when b (suc n))
+or_when true b n = refl
+or_when false b n = refl
 
 module _ (q : Held) where
   abbrev p : Plate
@@ -54,10 +66,16 @@ module _ (q : Held) where
       (omega (arith, twin_dart p o d k, s.dart_count, held_darts s a), omega (arith, end_at d t l e, ends_at_below p o d k, (faultless p a.no_fault).posts_most))
 
   -- the places left
-  pub fits_is : (d t more : ℕ) → d < q.darts → t ≡ twin d → leb (get_or q.degrees (get_or q.ends t 0) 0 + more) 4 ≡ not (full p (ends_at p d) more)
-  fits_is d t more l e =
-      ap (λ (k : ℕ). leb (k + more) 4) (ap (λ (v : ℕ). get_or q.degrees v 0) (end_at d t l e) ∙ held_degree s a (ends_at p d) (ends_at_below p o d (omega (arith, s.dart_count))))
-      ∙ four_or_less (degree p (ends_at p d) + more)
+  degree_at : (d t : ℕ) → d < q.darts → t ≡ twin d → get_or q.degrees (get_or q.ends t 0) 0 ≡ degree p (ends_at p d)
+  degree_at d t l e =
+      ap (λ (v : ℕ). get_or q.degrees v 0) (end_at d t l e) ∙ held_degree s a (ends_at p d) (ends_at_below p o d (omega (arith, s.dart_count)))
+
+  module _ (d t more : ℕ) (l : d < q.darts) (e : t ≡ twin d) where
+    pub places_full : 4 < get_or q.degrees (get_or q.ends t 0) 0 + more → 37 ≡ when (full p (ends_at p d) more) 37
+    places_full h = rw (lt-ltb 4 (degree p (ends_at p d) + more) (omega (arith, degree_at d t l e)))
+
+    pub places_left : get_or q.degrees (get_or q.ends t 0) 0 + more ≤ 4 → 0 ≡ when (full p (ends_at p d) more) 37
+    places_left h = rw (le-ltb 4 (degree p (ends_at p d) + more) (omega (arith, degree_at d t l e)))
 
   module _ (d e t u : ℕ) (l : d < q.darts) (k : e < q.darts) (x : t ≡ twin d) (y : u ≡ twin e) where
     pub takes_two : get_or q.ends t 0 ≡ get_or q.ends u 0 → 2 ≡ taken p d e
@@ -81,3 +99,30 @@ module _ (q : Held) where
           face_same p o d l (lead p d) (lead_in_face p o d l) e
           ∙ subst (λ (i : ℕ). is_in e (face_of p i) ≡ true) (sym h) (lead_face p o e k)
 
+  pub face_two : (d e : ℕ) → d < q.darts → e < q.darts → (d ≡ e → ⊥) → eqb (get_or q.face d 0) (get_or q.face e 0) ≡ not (no_face p d e)
+  face_two d e l k n =
+      same_face d e (omega (arith, s.dart_count)) (omega (arith, s.dart_count)) ∙ twice (is_in e (face_of p d))
+      ∙ rw (lt-leb (darts p) d (omega (arith, s.dart_count)), lt-leb (darts p) e (omega (arith, s.dart_count)), ne_eqb d e n)
+    where
+      twice : (b : Bool) → b ≡ not (not b)
+      twice true = refl
+      twice false = refl
+
+  -- a hanging strip, past 36
+  pub hang_is : (d n : ℕ) → n ≡ first_of (when (not (ltb d q.darts)) 35) (when (no_post p || no_strip p) 36) → first_of n (when (full p (ends_at p d) 1) 37) ≡ hang_fault p d
+  hang_is d n e =
+      ap (λ (k : ℕ). first_of k (when (full p (ends_at p d) 1) 37)) (e ∙ ap (λ (b : Bool). first_of (when b 35) (when (no_post p || no_strip p) 36)) (ap (λ (k : ℕ). not (ltb d k)) s.dart_count ∙ not_below d (darts p)))
+      ∙ sym (first_assoc (when (leb (darts p) d) 35) (when (no_post p || no_strip p) 36) (when (full p (ends_at p d) 1) 37))
+
+  -- a join, past 36
+  pub join_is : (d e more : ℕ) → no_face p d e ≡ false → q.darts / 2 < 128 → more ≡ taken p d e → first_of (when (full p (ends_at p d) more) 37) (when (full p (ends_at p e) more) 37) ≡ join_fault p d e
+  join_is d e more face few is-taken =
+      ap (λ (m : ℕ). first_of (when (full p (ends_at p d) m) 37) (when (full p (ends_at p e) m) 37)) is-taken ∙ sym (or_when (full p (ends_at p d) (taken p d e)) (full p (ends_at p e) (taken p d e)) 36)
+      ∙ sym (ap (λ (b : Bool). first_of (when b 35) (first_of (when (no_strip p) 36) both)) face ∙ ap (λ (b : Bool). first_of (when b 36) both) (lt-leb 128 (strips p) (omega (arith, s.dart_count))))
+    where
+      both : ℕ
+      both = when (full p (ends_at p d) (taken p d e) || full p (ends_at p e) (taken p d e)) 37
+
+-- a step that is not refused, from the plate read
+pub step_done : {fault : ℕ} {p : Plate} {r : Result Held Refusal} → fault ≡ 0 → Accepted p → Reads p r → SteppedTo fault p r
+step_done e a h = record { number = h.number ∙ a.no_fault ∙ sym e; plate = h.plate }

@@ -2,9 +2,9 @@
 use mathlib.Core.Path.{◌≡◌, refl, sym, ap, ◌∙◌}
 use mathlib.Core.Bool.{Bool, true, false, ◌||◌}
 use mathlib.Core.List.{List, [], ◌∷◌}
-use Prim.Native.Nat.{ℕ, suc, ◌+◌, ◌-◌, ◌≤◌}
+use Prim.Native.Nat.{ℕ, suc, ◌+◌, ◌-◌, ◌≤◌, ◌<◌}
 use native.Mathlib.Omega.{arith}
-use borrow.Author.Tests.{eqb-true, eq-eqb, ltb-false}
+use borrow.Author.Tests.{eqb-true, eq-eqb, ltb-true, ltb-false}
 use lib.Dec.{eqb, ltb}
 use lib.ListN.{length, take, drop}
 use Rattle.finite.proofs.Lent.{rest_lent}
@@ -33,6 +33,23 @@ place-position x = is_position_or_len (place_of x) (λ y. eqb x y) refl (λ y ys
     by : (b : Bool) (n : ℕ) → elim b as (λ b. ℕ) [ true ↦ 0 | false ↦ suc n ] ≡ cond b 0 (1 + n)
     by true n = refl
     by false n = omega arith
+
+-- where it stands, if it does
+pub found : (x : ℕ) (s : List ℕ) (at : ℕ) → Some at ≡ position (λ y. eqb x y) s → (at ≡ place_of x s) × (at < length s)
+found x s at e = by (ltb (position_or_len (λ y. eqb x y) s) (length s)) refl e
+  where
+    by : (b : Bool) → ltb (position_or_len (λ y. eqb x y) s) (length s) ≡ b → Some at ≡ cond b (Some (position_or_len (λ y. eqb x y) s)) None → (at ≡ place_of x s) × (at < length s)
+    by true h e =
+        let same : at ≡ position_or_len (λ y. eqb x y) s = ap (λ (o : Option ℕ). unwrap_or o 0) e in
+        (same ∙ sym (place-position x s), omega (arith, same, ltb-true (position_or_len (λ y. eqb x y) s) (length s) h))
+    by false h e = cc
+
+pub missing : (x : ℕ) (s : List ℕ) → None ≡ position (λ y. eqb x y) s → length s ≤ place_of x s
+missing x s e = by (ltb (position_or_len (λ y. eqb x y) s) (length s)) refl e
+  where
+    by : (b : Bool) → ltb (position_or_len (λ y. eqb x y) s) (length s) ≡ b → None ≡ cond b (Some (position_or_len (λ y. eqb x y) s)) None → length s ≤ place_of x s
+    by true h e = cc
+    by false h e = omega (arith, place-position x s, ltb-false (position_or_len (λ y. eqb x y) s) (length s) h)
 
 pub position_is : (x : ℕ) (s : List ℕ) → unwrap_or (position (λ y. eqb x y) s) (length s) ≡ place_of x s
 position_is x s = by (ltb (position_or_len (λ y. eqb x y) s) (length s)) refl

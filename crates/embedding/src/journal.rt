@@ -1,5 +1,5 @@
 //! The steps of the editor's journal: a plate by value goes in and comes back with its verdict.
-ghost use Rattle.std.specs.Prelude.{◌≡◌, true, ◌||◌, not, List, [], ◌∷◌, ℕ, ◌+◌, ◌%◌, ◌<◌, ◌≤◌, length};
+ghost use Rattle.std.specs.Prelude.{◌≡◌, ◌==◌, position, true, ◌||◌, not, List, [], ◌∷◌, ℕ, ◌+◌, ◌%◌, ◌<◌, ◌≤◌, length};
 ghost use Rattle.refusals.specs.Numbers.{fault_of};
 ghost use Rattle.embedding.specs.Plates.{Plate as PlateOf, distinct, ends_at, first_of, when};
 ghost use Rattle.embedding.specs.Read.{place_of, meant, Reads};
@@ -35,11 +35,18 @@ pub fn append(list: [u8; 256], at: usize, s: &[u8]) -> [u8; 256]
     all
 }
 
+// Where `x` stands first, if it does.
+fn find(x: u8, s: &[u8]) -> Option<usize>
+    ensures { result ≡ position (λ y. x == y) s.now }
+{
+    s.iter().position(|y| x == *y)
+}
+
 // Where `x` stands first, or the length.
 pub fn place_of(x: u8, s: &[u8]) -> usize
     ensures { result ≡ place_of x s.now }
 {
-    s.iter().position(|y| x == *y).unwrap_or(s.len())
+    find(x, s).unwrap_or(s.len())
 }
 
 // `y` for `x` among the first elements, where it stands once.
@@ -48,8 +55,7 @@ fn replace(list: [u8; 256], long: usize, x: u8, y: u8) -> [u8; 256]
     ensures { (l : List ℕ) → Front l list → length l ≡ long → distinct l ≡ true → Front (renamed x y l) result }
 {
     let mut all = list;
-    let at = place_of(x, &list[..long]);
-    if at < long {
+    if let Some(at) = find(x, &list[..long]) {
         all[at] = y;
     }
     all
@@ -60,14 +66,14 @@ fn put_before(x: u8, y: u8, s: &[u8]) -> [u8; 256]
     requires { length s.now < 256 }
     ensures { Front (put_before x y s.now) result }
 {
-    let at = place_of(x, s);
-    let before = append([0; 256], 0, &s[..at]);
-    if at < s.len() {
-        let mut with = before;
-        with[at] = y;
-        return append(with, at + 1, &s[at..]);
+    match find(x, s) {
+        Some(at) => {
+            let before = append([0; 256], 0, &s[..at]);
+            let with = append(before, at, &[y]);
+            append(with, at + 1, &s[at..])
+        }
+        None => append([0; 256], 0, s),
     }
-    before
 }
 
 // The plate that the first `darts` elements of each list make.
