@@ -1,6 +1,7 @@
 -- Arrays that begin with a list: written behind it, and the places of elements, for the steps of the journal.
 use mathlib.Core.Path.{◌≡◌, refl, sym, ap, subst, ◌∙◌}
 use mathlib.Core.Bool.{true}
+use Rattle.std.proofs.Common.{Result}
 use mathlib.Core.List.{List, [], ◌∷◌, ◌++◌, append-nil, append_assoc}
 use mathlib.Core.Logic.{⊎_elim}
 use Prim.Native.Nat.{ℕ, suc, ◌+◌, ◌-◌, ◌*◌, ◌≤◌, ◌<◌}
@@ -9,14 +10,15 @@ use lib.ListN.{length, get_or, take, drop, set, length-set, length-append, lengt
 use lib.Seq.{take_all, take-suc, take-suc-set, take-set-lt, length-take-le}
 use Rattle.finite.proofs.Tests.{either, equal_or_not, not_true_false}
 use Rattle.embedding.specs.Plates.{is_in, distinct, Plate, plate}
-use Rattle.embedding.specs.Read.{place_of, Accepted, Stands, Reads}
+use Rattle.embedding.specs.Read.{place_of, Reads}
 use Rattle.embedding.specs.Edits.{laid, put_before, renamed}
 use Rattle.embedding.specs.Arrays.{Front, Appended, row_in, Listed}
-use Rattle.embedding.specs.declared.Reading.{Reading}
+use Rattle.refusals.specs.declared.Refusal.{Refusal}
+use Rattle.embedding.specs.declared.Plate.{Plate as Held}
 use Rattle.embedding.proofs.Fronts.{front}
 use Rattle.embedding.proofs.Placing.{put_none}
 use Rattle.embedding.proofs.Flat.{place_none, place_some, put_placed, renamed_none, renamed_placed}
-use Rattle.embedding.proofs.Answers.{place_hit, place_miss, read_stands}
+use Rattle.embedding.proofs.Answers.{place_hit, place_miss}
 
 pub front_none : (xs : List ℕ) → length xs ≡ 256 → Front [] xs
 front_none xs e = record { size = e; front = refl }
@@ -78,13 +80,13 @@ place_most x [] = omega arith
 place_most x (y ∷ s) = ⊎_elim (λ e. omega (arith, place_hit x y s e)) (λ e. omega (arith, place_miss x y s e, place_most x s)) (equal_or_not x y)
 
 -- y put in before x
-pub put_there : (x y : ℕ) (s : List ℕ) (at : ℕ) {zeros before all : List ℕ} → at ≡ place_of x s → at < length s → length s < 256 → length zeros ≡ 256
-    → Appended 0 (take at s) zeros before → Appended (at + 1) (take (length s - at) (drop at s)) (set before at y) all → Front (put_before x y s) all
-put_there x y s at e k few z h j =
+pub put_there : (x y : ℕ) (s : List ℕ) (at : ℕ) {zeros before with all : List ℕ} → at ≡ place_of x s → at < length s → length zeros ≡ 256
+    → Appended 0 (take at s) zeros before → Appended at (y ∷ []) before with → Appended (at + 1) (take (length s - at) (drop at s)) with all → Front (put_before x y s) all
+put_there x y s at e k z h i j =
     front_same
     (append_assoc (take at s) (y ∷ []) (take (length s - at) (drop at s)) ∙ ap (λ (r : List ℕ). take at s ++ (y ∷ r)) rest
     ∙ sym (put_placed x y s there ∙ ap (λ (i : ℕ). take i s ++ (y ∷ drop i s)) (sym e)))
-    (j (take at s ++ (y ∷ [])) (front_one at y (h [] (front_none _ z) refl) long (omega arith)) (omega (arith, length-append (take at s) (y ∷ []), long)))
+    (j (take at s ++ (y ∷ [])) (i (take at s) (h [] (front_none _ z) refl) long) (omega (arith, length-append (take at s) (y ∷ []), long)))
   where
     long : length (take at s) ≡ at
     long = length-take-le at s (omega arith)
@@ -95,24 +97,28 @@ put_there x y s at e k few z h j =
     there : is_in x s ≡ true
     there = ⊎_elim (λ w. w) (λ w. absurd (omega (arith, place_none x s w))) (either (is_in x s))
 
-pub put_nowhere : (x y : ℕ) (s : List ℕ) (at : ℕ) {zeros before : List ℕ} → at ≡ place_of x s → length s ≤ at → length zeros ≡ 256 → Appended 0 (take at s) zeros before → Front (put_before x y s) before
-put_nowhere x y s at e k z h =
-    front_same (take_all at s k ∙ sym (put_none x y s (not_true_false (is_in x s) (λ i. omega (arith, place_some x s i))))) (h [] (front_none _ z) refl)
+pub put_nowhere : (x y : ℕ) (s : List ℕ) {zeros all : List ℕ} → length s ≤ place_of x s → length zeros ≡ 256 → Appended 0 s zeros all → Front (put_before x y s) all
+put_nowhere x y s k z h =
+    front_same (sym (put_none x y s (not_true_false (is_in x s) (λ i. omega (arith, place_some x s i))))) (h [] (front_none _ z) refl)
 
 -- y for x
-module _ (x y long at : ℕ) (list : List ℕ) (e : at ≡ place_of x (take long list)) (l : List ℕ) (f : Front l list) (k : length l ≡ long) where
-  at_is : at ≡ place_of x l
-  at_is = e ∙ ap (place_of x) (front_take f k)
-
-  pub replaced : at < long → distinct l ≡ true → Front (renamed x y l) (set list at y)
-  replaced h d =
-      front_same (sym (renamed_placed x y l d there ∙ ap (λ (i : ℕ). set l i y) (sym at_is))) (front_set at y f (omega arith))
+module _ (x y long : ℕ) (list : List ℕ) (l : List ℕ) (f : Front l list) (k : length l ≡ long) where
+  pub replaced : (at : ℕ) → at ≡ place_of x (take long list) → at < length (take long list) → distinct l ≡ true → Front (renamed x y l) (set list at y)
+  replaced at e h d =
+      front_same (sym (renamed_placed x y l d there ∙ ap (λ (i : ℕ). set l i y) (sym at_is))) (front_set at y f in_front)
     where
-      there : is_in x l ≡ true
-      there = ⊎_elim (λ w. w) (λ w. absurd (omega (arith, place_none x l w, at_is))) (either (is_in x l))
+      at_is : at ≡ place_of x l
+      at_is = e ∙ ap (place_of x) (front_take f k)
 
-  pub not_replaced : long ≤ at → Front (renamed x y l) list
-  not_replaced h = front_same (sym (renamed_none x y l (not_true_false (is_in x l) (λ i. omega (arith, place_some x l i, at_is))))) f
+      in_front : at < length l
+      in_front = omega (arith, ap (length {A = ℕ}) (front_take f k))
+
+      there : is_in x l ≡ true
+      there = ⊎_elim (λ w. w) (λ w. absurd (omega (arith, place_none x l w, at_is, in_front))) (either (is_in x l))
+
+  pub not_replaced : length (take long list) ≤ place_of x (take long list) → Front (renamed x y l) list
+  not_replaced h =
+      front_same (sym (renamed_none x y l (not_true_false (is_in x l) (λ i. omega (arith, place_some x l i, ap (place_of x) (front_take f k), ap (length {A = ℕ}) (front_take f k)))))) f
 
 -- the order, a post at a time
 pub record Laying (places degrees : List ℕ) (v at : ℕ) (all : List ℕ) : Type 0 where
@@ -143,12 +149,7 @@ laying_more {places} {degrees} {v} {at} {all} {more} h few size room degree from
 plate_same : (p : Plate) {n x : ℕ} {e o : List ℕ} → p.posts ≡ n → p.ends ≡ e → p.order ≡ o → p.outer ≡ x → plate n e o x ≡ p
 plate_same p a b c d = λ i. record { posts = sym a i; ends = sym b i; order = sym c i; outer = sym d i }
 
-pub listed_read : (p : Plate) (n x k : ℕ) {ends order : List ℕ} {r : Reading} → p.posts ≡ n → p.outer ≡ x → Listed p k ends order → Accepted p
-    → Reads (plate n (take k ends) (take k order) x) r → (r.number ≡ 0) × Stands r.plate p
-listed_read p n x k {ends} {order} {r} a d l h reads = (number, read_stands p r same number)
-  where
-    same : Reads p r
-    same = subst (λ (q : Plate). Reads q r) (plate_same p a (sym (front_take l.ends_front l.ends_long)) (sym (front_take l.order_front l.order_long)) d) reads
-
-    number : r.number ≡ 0
-    number = same.number ∙ h.no_fault
+pub listed_read : (p : Plate) (n x k : ℕ) {ends order : List ℕ} {r : Result Held Refusal} → p.posts ≡ n → p.outer ≡ x → Listed p k ends order
+    → Reads (plate n (take k ends) (take k order) x) r → Reads p r
+listed_read p n x k {ends} {order} {r} a d l =
+    subst (λ (q : Plate). Reads q r) (plate_same p a (sym (front_take l.ends_front l.ends_long)) (sym (front_take l.order_front l.order_long)) d)

@@ -9,10 +9,9 @@ use lib.ListN.{length, get_or, take, set, length-set, length-append}
 use lib.Seq.{ext_get_or, get_or-take, length-take-le}
 use Rattle.embedding.specs.Plates.{is_in, Plate, plate, darts, twin, ends_at, degree, part_of, distinct}
 use Rattle.embedding.specs.Steps.{Few}
-use Rattle.embedding.specs.Read.{Stands, Accepted}
+use Rattle.embedding.specs.Meant.{StandFor, held, Accepted}
 use Rattle.embedding.specs.Edits.{laid, put_before, renamed, split, hang, join}
 use Rattle.embedding.specs.Arrays.{Front, Appended, row_in, Listed}
-use Rattle.embedding.specs.declared.Plate.{Plate as Held}
 use Rattle.embedding.proofs.Rotation.{Ordered, twin_dart, own_part, leaves_below}
 use Rattle.embedding.proofs.Faultless.{Faultless, faultless}
 use Rattle.embedding.proofs.Degrees.{most_over, degree_most, darts_few}
@@ -39,68 +38,75 @@ past_order p f w =
       parts = sym f.parts-ok;
     }
 
--- a plate that is held
-module _ {q : Held} {p : Plate} (s : Stands q p) (a : Accepted p) where
+-- fields that stand for a plate without fault
+module _ {p : Plate} {posts count : ℕ} {ends places degrees : List ℕ} {outer : ℕ} {next face : List ℕ} {face_total : ℕ} {sizes : List ℕ} (s : StandFor p posts count ends places degrees outer next face face_total sizes) (a : Accepted p) where
   o : Ordered p
   o = accepted_ordered p a
 
   f : Faultless p
   f = faultless p a.no_fault
 
-  pub held_posts : q.posts ≤ 64
+  pub held_posts : posts ≤ 64
   held_posts = omega (arith, s.same_posts, f.posts_most)
 
-  pub held_darts : q.darts ≤ 256
+  pub held_darts : count ≤ 256
   held_darts = omega (arith, s.dart_count, darts_few p f o)
 
-  few : Few p.posts p.ends q.degrees
+  few : Few p.posts p.ends degrees
   few = record { table = s.post_degrees; most = degree_most p f }
 
-  pub held_degrees : (v : ℕ) → get_or q.degrees v 0 ≤ 4
+  pub held_degrees : (v : ℕ) → get_or degrees v 0 ≤ 4
   held_degrees = few_most f.posts_most few
 
-  pub held_degree : (v : ℕ) → v < p.posts → get_or q.degrees v 0 ≡ degree p v
+  pub held_degree : (v : ℕ) → v < p.posts → get_or degrees v 0 ≡ degree p v
   held_degree = few_at f.posts_most few
 
-  pub held_order : laid q.posts (row_in q.places q.degrees) ≡ p.order
+  pub held_order : laid posts (row_in places degrees) ≡ p.order
   held_order =
-      ap (λ (n : ℕ). laid n (row_in q.places q.degrees)) s.same_posts
-      ∙ laid_cong p.posts (row_in q.places q.degrees) (part_of p) (part_held (past_order p f few) a.even_darts (darts_few p f o) s.four_places)
+      ap (λ (n : ℕ). laid n (row_in places degrees)) s.same_posts
+      ∙ laid_cong p.posts (row_in places degrees) (part_of p) (part_held (past_order p f few) a.even_darts (darts_few p f o) s.four_places)
       ∙ order_laid p o
 
-  pub held_ends : Front p.ends q.ends
+  pub held_ends : Front p.ends ends
   held_ends =
       record {
         size = s.strip_ends.size;
-        front = ext_get_or 0 (take (darts p) q.ends) p.ends long
-            (λ i k. get_or-take (darts p) q.ends i 0 (omega (arith, long)) ∙ s.strip_ends.at i (omega (arith, long, darts_few p f o)));
+        front = ext_get_or 0 (take (darts p) ends) p.ends long
+            (λ i k. get_or-take (darts p) ends i 0 (omega (arith, long)) ∙ s.strip_ends.at i (omega (arith, long, darts_few p f o)));
       }
     where
-      long : length (take (darts p) q.ends) ≡ darts p
-      long = length-take-le (darts p) q.ends (omega (arith, s.strip_ends.size, darts_few p f o))
+      long : length (take (darts p) ends) ≡ darts p
+      long = length-take-le (darts p) ends (omega (arith, s.strip_ends.size, darts_few p f o))
 
-  pub held_end : (i : ℕ) → i < q.darts → get_or q.ends i 0 ≡ get_or p.ends i 0
+  pub held_end : (i : ℕ) → i < count → get_or ends i 0 ≡ get_or p.ends i 0
   held_end i k = s.strip_ends.at i (omega (arith, held_darts))
 
-  -- the order array
-  order_front : {order : List ℕ} → Front (laid q.posts (row_in q.places q.degrees)) order → Front p.order order
-  order_front = front_same held_order
-
-  order_long : length p.order ≡ q.darts
+  order_long : length p.order ≡ count
   order_long = f.all_ordered ∙ sym s.dart_count
 
+  -- the plate that they stand for is this one
+  pub held_is : held posts count ends places degrees outer ≡ p
+  unfolding held
+  held_is = λ i. record { posts = s.same_posts i; ends = front_take held_ends (sym s.dart_count) i; order = held_order i; outer = s.outer_dart i }
+
+  pub held_stands : StandFor (held posts count ends places degrees outer) posts count ends places degrees outer next face face_total sizes
+  held_stands = subst (λ (r : Plate). StandFor r posts count ends places degrees outer next face face_total sizes) (sym held_is) s
+
+  pub held_accepted : Accepted (held posts count ends places degrees outer)
+  held_accepted = subst Accepted (sym held_is) a
+
   -- split
-  module _ (t : ℕ) (l : suc (2 * t) < q.darts) where
+  module _ (t : ℕ) (l : suc (2 * t) < count) where
     split_order : (split p t).order ≡ renamed (suc (2 * t)) (suc (darts p)) p.order ++ (suc (2 * t) ∷ (darts p ∷ []))
     split_order =
         ap (λ (r : List ℕ). r ++ (suc (2 * t) ∷ (darts p ∷ [])))
         (laid_renamed (part_of p) (suc (2 * t)) (suc (darts p)) p.posts ∙ ap (renamed (suc (2 * t)) (suc (darts p))) (order_laid p o))
 
-    pub split_listed : (back next last end n : ℕ) {order ren new_order new-ends : List ℕ} → back ≡ suc (2 * t) → next ≡ suc (darts p) → last ≡ suc (suc (darts p)) → end ≡ get_or q.ends back 0 → n ≡ p.posts
-        → Front (laid q.posts (row_in q.places q.degrees)) order
-        → ((m : List ℕ) → Front m order → length m ≡ q.darts → distinct m ≡ true → Front (renamed back next m) ren)
-        → Appended q.darts (back ∷ (q.darts ∷ [])) ren new_order
-        → Appended q.darts (n ∷ (end ∷ [])) (set q.ends back n) new-ends
+    pub split_listed : (back next last end n : ℕ) {order ren new_order new-ends : List ℕ} → back ≡ suc (2 * t) → next ≡ suc (darts p) → last ≡ suc (suc (darts p)) → end ≡ get_or ends back 0 → n ≡ p.posts
+        → Front p.order order
+        → ((m : List ℕ) → Front m order → length m ≡ count → distinct m ≡ true → Front (renamed back next m) ren)
+        → Appended count (back ∷ (count ∷ [])) ren new_order
+        → Appended count (n ∷ (end ∷ [])) (set ends back n) new-ends
         → Listed (split p t) last new-ends new_order
     split_listed back next last end n {order} {ren} {new_order} {new-ends} eb en el ee ep front c2 c3 c4 =
         record {
@@ -111,13 +117,13 @@ module _ {q : Held} {p : Plate} (s : Stands q p) (a : Accepted p) where
         }
       where
         end_is : end ≡ get_or p.ends (suc (2 * t)) 0
-        end_is = ee ∙ ap (λ (i : ℕ). get_or q.ends i 0) eb ∙ held_end (suc (2 * t)) l
+        end_is = ee ∙ ap (λ (i : ℕ). get_or ends i 0) eb ∙ held_end (suc (2 * t)) l
 
         ends_now : Front (set p.ends back n ++ (n ∷ (end ∷ []))) new-ends
         ends_now = c4 (set p.ends back n) (front_set back n held_ends (omega (arith, s.dart_count))) (omega (arith, length-set p.ends back n, s.dart_count))
 
-        order_now : Front (renamed back next p.order ++ (back ∷ (q.darts ∷ []))) new_order
-        order_now = c3 (renamed back next p.order) (c2 p.order (order_front front) order_long (order_once p o)) (renamed_long back next p.order ∙ order_long)
+        order_now : Front (renamed back next p.order ++ (back ∷ (count ∷ []))) new_order
+        order_now = c3 (renamed back next p.order) (c2 p.order front order_long (order_once p o)) (renamed_long back next p.order ∙ order_long)
 
   -- the twin of a dart stands in the order
   in_order : (d : ℕ) → d < darts p → is_in (twin d) p.order ≡ true
@@ -126,7 +132,7 @@ module _ {q : Held} {p : Plate} (s : Stands q p) (a : Accepted p) where
       (laid_in_lem (part_of p) p.posts (twin d) (ends_at p d) (leaves_below p o (twin d) (twin_dart p o d k)) (own_part p o (twin d) (twin_dart p o d k)))
 
   -- hang
-  module _ (d : ℕ) (l : d < q.darts) where
+  module _ (d : ℕ) (l : d < count) where
     dl : d < darts p
     dl = omega (arith, s.dart_count)
 
@@ -138,11 +144,11 @@ module _ {q : Held} {p : Plate} (s : Stands q p) (a : Accepted p) where
     put_now : length (put_before (twin d) (darts p) p.order) ≡ suc (darts p)
     put_now = put_long (twin d) (darts p) p.order (in_order d dl) ∙ ap suc f.all_ordered
 
-    pub hang_listed : (t v next last n : ℕ) {order with new_order new-ends : List ℕ} → t ≡ twin d → v ≡ get_or q.ends t 0 → next ≡ suc (darts p) → last ≡ suc (suc (darts p)) → n ≡ p.posts
-        → Front (laid q.posts (row_in q.places q.degrees)) order
-        → Front (put_before t q.darts (take q.darts order)) with
+    pub hang_listed : (t v next last n : ℕ) {order with new_order new-ends : List ℕ} → t ≡ twin d → v ≡ get_or ends t 0 → next ≡ suc (darts p) → last ≡ suc (suc (darts p)) → n ≡ p.posts
+        → Front p.order order
+        → Front (put_before t count (take count order)) with
         → Appended next (next ∷ []) with new_order
-        → Appended q.darts (v ∷ (n ∷ [])) q.ends new-ends
+        → Appended count (v ∷ (n ∷ [])) ends new-ends
         → Listed (hang p d) last new-ends new_order
     hang_listed t v next last n {order} {with} {new_order} {new-ends} et ev en el ep front c2 c3 c4 =
         record {
@@ -153,14 +159,14 @@ module _ {q : Held} {p : Plate} (s : Stands q p) (a : Accepted p) where
         }
       where
         end_is : v ≡ ends_at p d
-        end_is = ev ∙ ap (λ (i : ℕ). get_or q.ends i 0) et ∙ held_end (twin d) (omega (arith, twin_dart p o d dl, s.dart_count))
+        end_is = ev ∙ ap (λ (i : ℕ). get_or ends i 0) et ∙ held_end (twin d) (omega (arith, twin_dart p o d dl, s.dart_count))
 
         put_front : Front (put_before (twin d) (darts p) p.order) with
         put_front =
-            front_same (ap₂ (λ (x y : ℕ). put_before x y (take q.darts order)) et s.dart_count ∙ ap (put_before (twin d) (darts p)) (front_take (order_front front) order_long)) c2
+            front_same (ap₂ (λ (x y : ℕ). put_before x y (take count order)) et s.dart_count ∙ ap (put_before (twin d) (darts p)) (front_take front order_long)) c2
 
   -- join
-  module _ (d e : ℕ) (l : d < q.darts) (k : e < q.darts) where
+  module _ (d e : ℕ) (l : d < count) (k : e < count) where
     jd : d < darts p
     jd = omega (arith, s.dart_count)
 
@@ -186,10 +192,10 @@ module _ {q : Held} {p : Plate} (s : Stands q p) (a : Accepted p) where
     whole_long = put_long (twin d) (darts p) half_order (put_is_in (twin e) (suc (darts p)) p.order (twin d) t_not ∙ in_order d jd) ∙ ap suc half_long
 
     pub join_listed : (t u next last : ℕ) {order half new_order new-ends : List ℕ} → t ≡ twin d → u ≡ twin e → next ≡ suc (darts p) → last ≡ suc (suc (darts p))
-        → Front (laid q.posts (row_in q.places q.degrees)) order
-        → Front (put_before u next (take q.darts order)) half
-        → Front (put_before t q.darts (take next half)) new_order
-        → Appended q.darts (get_or q.ends t 0 ∷ (get_or q.ends u 0 ∷ [])) q.ends new-ends
+        → Front p.order order
+        → Front (put_before u next (take count order)) half
+        → Front (put_before t count (take next half)) new_order
+        → Appended count (get_or ends t 0 ∷ (get_or ends u 0 ∷ [])) ends new-ends
         → Listed (join p d e) last new-ends new_order
     join_listed t u next last {order} {half} {new_order} {new-ends} et eu en el front c2 c3 c4 =
         record {
@@ -199,9 +205,9 @@ module _ {q : Held} {p : Plate} (s : Stands q p) (a : Accepted p) where
           order_long = ap (length {A = ℕ}) join_order ∙ whole_long ∙ sym el;
         }
       where
-        end_is : (t d : ℕ) → t ≡ twin d → d < darts p → get_or q.ends t 0 ≡ ends_at p d
-        end_is t d z m = ap (λ (i : ℕ). get_or q.ends i 0) z ∙ held_end (twin d) (omega (arith, twin_dart p o d m, s.dart_count))
+        end_is : (t d : ℕ) → t ≡ twin d → d < darts p → get_or ends t 0 ≡ ends_at p d
+        end_is t d z m = ap (λ (i : ℕ). get_or ends i 0) z ∙ held_end (twin d) (omega (arith, twin_dart p o d m, s.dart_count))
 
         half_front : Front half_order half
         half_front =
-            front_same (ap₂ (λ (x y : ℕ). put_before x y (take q.darts order)) eu en ∙ ap (put_before (twin e) (suc (darts p))) (front_take (order_front front) order_long)) c2
+            front_same (ap₂ (λ (x y : ℕ). put_before x y (take count order)) eu en ∙ ap (put_before (twin e) (suc (darts p))) (front_take front order_long)) c2

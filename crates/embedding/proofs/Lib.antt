@@ -28,6 +28,7 @@ pub mod Splitting
 pub mod Editing
 pub mod Flat
 pub mod Fronted
+pub mod Words
 pub mod Holding
 pub mod Refusing
 pub mod Turning

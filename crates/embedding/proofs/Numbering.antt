@@ -16,7 +16,8 @@ use Rattle.finite.proofs.Tables.{table_cong, table_set, up_below, up_from}
 use Rattle.finite.proofs.Tests.{not_true_false, and_both, or_left_false, or_right_false}
 use Rattle.embedding.specs.Plates.{pick, is_in, Plate, darts, after, face_of, is_lowest, faces_from}
 use Rattle.embedding.specs.Steps.{next_of, FaceLabelled}
-use Rattle.embedding.specs.Read.{lead, place_of, face_number, face_size, Follows, Numbered, Fitting, FacesLabelled}
+use Rattle.embedding.specs.Read.{lead, place_of, face_number, face_size, Follows, Numbered, FacesLabelled}
+use Rattle.embedding.specs.declared.labels.Labelled.{Labelled}
 use Rattle.embedding.proofs.Faces.{face_is, from_in}
 
 append_none : (xs : List ℕ) → xs ++ [] ≡ xs
@@ -180,13 +181,13 @@ module _ (p : Plate) where
               ap₂ (λ (t : Bool) (y : ℕ). pick t count y) (outside d x l (omega arith)) (h.face_table.at x b ∙ up_from (darts p) (λ x. pick (ltb (lead p x) d) (length (faces_from (lead p x) 0 p)) 0) x (omega arith))
               ∙ sym (up_from (darts p) (λ x. pick (ltb (lead p x) (d + 1)) (length (faces_from (lead p x) 0 p)) 0) x (omega arith))
 
-    pub numbered_done : (d : ℕ) → d ≡ darts p → {face : List ℕ} {met : List Bool} {sizes : List ℕ} {count : ℕ} → Numbered p d face met sizes count → FacesLabelled p (record { face = face; sizes = sizes; faces = count })
-    numbered_done d q {face} {met} {sizes} {count} h =
+    pub numbered_done : (d : ℕ) → d ≡ darts p → (s : Labelled) → Numbered p d s.face s.met s.sizes s.faces → FacesLabelled p s
+    numbered_done d q s h =
         record {
           count = h.counted ∙ ap (λ (k : ℕ). length (faces_from k 0 p)) q;
-          face = table_cong 256 (up_to (darts p) (λ x. pick (ltb (lead p x) d) (length (faces_from (lead p x) 0 p)) 0)) (up_to (darts p) (face_number p)) face (λ x m. by x (dec_lt x (darts p))) h.face_table;
-          sizes = subst (λ (k : ℕ). Table 256 (up_to k (face_size p)) sizes) (h.counted ∙ ap (λ (k : ℕ). length (faces_from k 0 p)) q)
-              (subst (λ (k : ℕ). Table 256 (up_to count (λ i. length (face_of p (get_or (faces_from k 0 p) i 0)))) sizes) q h.size_table);
+          face = table_cong 256 (up_to (darts p) (λ x. pick (ltb (lead p x) d) (length (faces_from (lead p x) 0 p)) 0)) (up_to (darts p) (face_number p)) s.face (λ x m. by x (dec_lt x (darts p))) h.face_table;
+          sizes = subst (λ (k : ℕ). Table 256 (up_to k (face_size p)) s.sizes) (h.counted ∙ ap (λ (k : ℕ). length (faces_from k 0 p)) q)
+              (subst (λ (k : ℕ). Table 256 (up_to s.faces (λ i. length (face_of p (get_or (faces_from k 0 p) i 0)))) s.sizes) q h.size_table);
         }
       where
         by : (x : ℕ) → Dec (x < darts p) → up_to (darts p) (λ x. pick (ltb (lead p x) d) (length (faces_from (lead p x) 0 p)) 0) x ≡ up_to (darts p) (face_number p) x
@@ -226,8 +227,8 @@ module _ {p : Plate} {n : ℕ} {next : List ℕ} (w : Follows p n next) (b : n �
     pub numbered_kept : get_or met d false ≡ true → Numbered p d face met sizes count → Numbered p (d + 1) face met sizes count
     numbered_kept e h = numbered_same p follows_one d (omega (arith, w.many)) h e
 
-  pub numbered_all : (d : ℕ) → n ≤ d → d ≤ n → {face : List ℕ} {met : List Bool} {sizes : List ℕ} {count : ℕ} → Numbered p d face met sizes count → FacesLabelled p (record { face = face; sizes = sizes; faces = count })
-  numbered_all d l k h = numbered_done p follows_one d (omega (arith, w.many)) h
+  pub numbered_all : (d : ℕ) → n ≤ d → d ≤ n → (s : Labelled) → Numbered p d s.face s.met s.sizes s.faces → FacesLabelled p s
+  numbered_all d l k s h = numbered_done p follows_one d (omega (arith, w.many)) s h
 
 pub numbered_none : (p : Plate) → Numbered p 0 (replicate 256 0) (replicate 256 false) (replicate 256 0) 0
 numbered_none p =
@@ -245,6 +246,3 @@ numbered_none p =
     by : (x : ℕ) (t : Bool) → pick t (pick (ltb (lead p x) 0) (length (faces_from (lead p x) 0 p)) 0) 0 ≡ 0
     by x true = ap (λ (u : Bool). pick u (length (faces_from (lead p x) 0 p)) 0) (le-ltb (lead p x) 0 (omega arith))
     by x false = refl
-
-pub fitting_none : Fitting 0 (replicate 256 0) (replicate 256 false) (replicate 256 0) 0
-fitting_none = record { face_long = length-replicate {A = ℕ} 256 0; met_long = length-replicate 256 false; sizes_long = length-replicate {A = ℕ} 256 0; few = omega arith }

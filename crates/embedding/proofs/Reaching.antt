@@ -13,7 +13,7 @@ use Rattle.finite.proofs.Pigeonhole.{at_most}
 use Rattle.finite.proofs.Tests.{equal_or_not, and_both}
 use Rattle.embedding.specs.Plates.{pick, is_in, Plate, plate, all_below, joins, reach}
 use Rattle.embedding.specs.Steps.{Marks, join_one, Joined, RoundMade}
-use Rattle.embedding.specs.declared.Seen.{Seen}
+use Rattle.embedding.specs.declared.reached.Seen.{Seen}
 use Rattle.embedding.proofs.Reach.{linked, Good, joins_good}
 use Rattle.embedding.proofs.Fronts.{two_front}
 

@@ -1,6 +1,7 @@
 -- From the answers of the steps to the plate's fault, and to the plate.
 use mathlib.Core.Path.{◌≡◌, refl, sym, ap, ap₂, subst, ◌∙◌}
 use mathlib.Core.Bool.{Bool, true, false, ◌&&◌, ◌||◌, not}
+use Rattle.std.proofs.Common.{Err}
 use mathlib.Core.List.{List, [], ◌∷◌}
 use Prim.Native.Nat.{ℕ, ◌+◌, ◌*◌, ◌/◌, ◌%◌, ◌≤◌, ◌<◌}
 use native.Mathlib.Omega.{arith}
@@ -14,25 +15,28 @@ use Rattle.finite.proofs.Members.{all_of}
 use Rattle.finite.proofs.Pigeonhole.{at_most}
 use Rattle.finite.proofs.Tables.{table_cong, up_below, up_cong}
 use Rattle.finite.proofs.Tests.{or_left_false, or_right_false, first_none, first_some, when_none}
-use Rattle.embedding.specs.Plates.{pick_t, first_of, when, Plate, darts, twin, ends_at, part_of, all_below, parts_ok, last_of, just_before, after, faces, reach, connected, is_plane, plate_fault}
+use Rattle.embedding.specs.Plates.{first_of, when, Plate, darts, twin, ends_at, part_of, all_below, parts_ok, last_of, just_before, after, faces, reach, connected, is_plane, plate_fault}
 use Rattle.embedding.specs.Steps.{Few, place_in, after_in, next_of}
 use Rattle.embedding.specs.Pass.{strips_fault, early_fault, late_fault}
-use Rattle.embedding.specs.Read.{Follows, face_size, Stands, blank, Past, refusal, Reads}
-use Rattle.embedding.specs.declared.Plate.{Plate as Held}
+use Rattle.embedding.specs.Read.{Follows, face_size, Past, Reads}
+use Rattle.refusals.specs.Numbers.{number_of}
+use Rattle.refusals.specs.declared.Refusal.{Refusal}
+use Rattle.refusals.specs.declared.Refusal.TheVariants.{ClockwiseOrder, OuterDart, NotConnected, NotPlane}
 use Rattle.embedding.proofs.Faces.{faces_distinct, faces_below}
 use Rattle.embedding.proofs.Counting.{few_at, few_most}
 use Rattle.embedding.proofs.OnePass.{strips_none, fault_parts}
 use Rattle.embedding.proofs.Rotation.{Ordered, length_part, leaves_below, twin_dart, after_below, after_one}
 
--- a refusal, and a plate without fault
-refused : (p : Plate) (e : ℕ) → (e ≡ 0 → ⊥) → plate_fault p ≡ e → Reads p (refusal e)
-refused p e n h = record { number = sym h; held = subst (λ (b : Bool). pick_t b (Stands blank p) (blank ≡ blank)) (sym (ne_eqb (plate_fault p) 0 (λ z. n (sym h ∙ z)))) refl }
+-- 0 is no refusal's number
+pub number_some : (e : Refusal) → number_of e ≡ 0 → ⊥
+number_some e h = grind arith
 
-accepted : (p : Plate) (q : Held) → plate_fault p ≡ 0 → Stands q p → Reads p (record { number = 0; plate = q })
-accepted p q h s = record { number = sym h; held = subst (λ (b : Bool). pick_t b (Stands q p) (q ≡ blank)) (sym (eq-eqb (plate_fault p) 0 h)) s }
+-- a refusal
+refused : (p : Plate) (e : Refusal) → plate_fault p ≡ number_of e → Reads p (Err e)
+refused p e h = record { number = sym h; plate = tt }
 
-pub early_refused : (p : Plate) (e : ℕ) → e ≡ early_fault p.posts p.ends → (e ≡ 0 → ⊥) → Reads p (refusal e)
-early_refused p e q n = refused p e n (fault_parts p ∙ ap (λ (a : ℕ). first_of a (first_of (strips_fault p) (late_fault p))) (sym q) ∙ first_some e (first_of (strips_fault p) (late_fault p)) n)
+pub early_refused : (p : Plate) (e : Refusal) → number_of e ≡ early_fault p.posts p.ends → (number_of e ≡ 0 → ⊥) → Reads p (Err e)
+early_refused p e q n = refused p e (fault_parts p ∙ ap (λ (a : ℕ). first_of a (first_of (strips_fault p) (late_fault p))) (sym q) ∙ first_some (number_of e) (first_of (strips_fault p) (late_fault p)) n)
 
 -- refusals 7 and 8 not met
 pub record Early (n : ℕ) : Type 0 where
@@ -48,16 +52,16 @@ module _ (p : Plate) (none : early_fault p.posts p.ends ≡ 0) where
   past_8 : plate_fault p ≡ first_of (strips_fault p) (late_fault p)
   past_8 = fault_parts p ∙ ap (λ (a : ℕ). first_of a (first_of (strips_fault p) (late_fault p))) none
 
-  pub strips_refused : (e : ℕ) → e ≡ strips_fault p → (e ≡ 0 → ⊥) → Reads p (refusal e)
-  strips_refused e q n = refused p e n (past_8 ∙ ap (λ (a : ℕ). first_of a (late_fault p)) (sym q) ∙ first_some e (late_fault p) n)
+  pub strips_refused : (e : Refusal) → number_of e ≡ strips_fault p → (number_of e ≡ 0 → ⊥) → Reads p (Err e)
+  strips_refused e q n = refused p e (past_8 ∙ ap (λ (a : ℕ). first_of a (late_fault p)) (sym q) ∙ first_some (number_of e) (late_fault p) n)
 
 -- refusals 7 to 11 not met
 module _ (p : Plate) {degrees : List ℕ} (h : Past p.posts p.ends degrees) where
   late_is : plate_fault p ≡ late_fault p
   late_is = past_8 p h.early ∙ ap (λ (a : ℕ). first_of a (late_fault p)) (h.strips p.order p.outer)
 
-  pub refused_12 : eqb (length p.order) (darts p) && parts_ok p.posts 0 p ≡ false → Reads p (refusal 12)
-  refused_12 e = refused p 12 (λ z. omega arith) (late_is ∙ rw e)
+  pub refused_12 : eqb (length p.order) (darts p) && parts_ok p.posts 0 p ≡ false → Reads p (Err ClockwiseOrder)
+  refused_12 e = refused p ClockwiseOrder (late_is ∙ rw e)
 
   pub ends_below : all_below p.posts p.ends ≡ true
   ends_below = (strips_none p (h.strips p.order p.outer)).0
@@ -69,25 +73,25 @@ pub record PastOrder (p : Plate) (degrees : List ℕ) : Type 0 where
   pub parts : true ≡ parts_ok p.posts 0 p
 
 module _ {p : Plate} {degrees : List ℕ} (h : PastOrder p degrees) where
-  pub refused_13 : darts p ≤ p.outer → Reads p (refusal 13)
-  refused_13 l = refused p 13 (λ z. omega arith) (late_is p h.past ∙ rw (eq-eqb (length p.order) (darts p) h.long, sym h.parts, le-leb (darts p) p.outer l))
+  pub refused_13 : darts p ≤ p.outer → Reads p (Err OuterDart)
+  refused_13 l = refused p OuterDart (late_is p h.past ∙ rw (eq-eqb (length p.order) (darts p) h.long, sym h.parts, le-leb (darts p) p.outer l))
 
   module _ (inner : p.outer < darts p) where
     past_13 : plate_fault p ≡ first_of (when (not (connected p)) 14) (when (not (is_plane p)) 15)
     past_13 = late_is p h.past ∙ rw (eq-eqb (length p.order) (darts p) h.long, sym h.parts, lt-leb (darts p) p.outer inner)
 
-    pub refused_14 : (length (reach p.posts p (0 ∷ [])) ≡ p.posts → ⊥) → Reads p (refusal 14)
-    refused_14 q = refused p 14 (λ z. omega arith) (past_13 ∙ rw (ne_eqb (length (reach p.posts p (0 ∷ []))) p.posts q))
+    pub refused_14 : (length (reach p.posts p (0 ∷ [])) ≡ p.posts → ⊥) → Reads p (Err NotConnected)
+    refused_14 q = refused p NotConnected (past_13 ∙ rw (ne_eqb (length (reach p.posts p (0 ∷ []))) p.posts q))
 
     module _ (joined : length (reach p.posts p (0 ∷ [])) ≡ p.posts) where
       past_14 : plate_fault p ≡ when (not (is_plane p)) 15
       past_14 = past_13 ∙ rw (eq-eqb (length (reach p.posts p (0 ∷ []))) p.posts joined)
 
-      pub refused_15 : (p.posts + length (faces p) ≡ darts p / 2 + 2 → ⊥) → Reads p (refusal 15)
-      refused_15 q = refused p 15 (λ z. omega arith) (past_14 ∙ rw (ne_eqb (p.posts + length (faces p)) (darts p / 2 + 2) q))
+      pub refused_15 : (p.posts + length (faces p) ≡ darts p / 2 + 2 → ⊥) → Reads p (Err NotPlane)
+      refused_15 q = refused p NotPlane (past_14 ∙ rw (ne_eqb (p.posts + length (faces p)) (darts p / 2 + 2) q))
 
-      pub plate_read : {q : Held} → p.posts + length (faces p) ≡ darts p / 2 + 2 → Stands q p → Reads p (record { number = 0; plate = q })
-      plate_read {q} w s = accepted p q (past_14 ∙ rw (eq-eqb (p.posts + length (faces p)) (darts p / 2 + 2) w)) s
+      pub no_fault : p.posts + length (faces p) ≡ darts p / 2 + 2 → plate_fault p ≡ 0
+      no_fault w = past_14 ∙ rw (eq-eqb (p.posts + length (faces p)) (darts p / 2 + 2) w)
 
 -- the next darts, from the places and the degrees, are those of the plate
 module _ {p : Plate} {degrees : List ℕ} (h : PastOrder p degrees) (even : darts p % 2 ≡ 0) (most : darts p ≤ 256) where
@@ -143,8 +147,8 @@ module _ {p : Plate} {degrees : List ℕ} (h : PastOrder p degrees) (even : dart
             one = λ c d l k q. after_one p in_order c d l k (sym (next_is c l) ∙ q ∙ next_is d k);
           }
 
-pub sizes_first : (p : Plate) {all first : List ℕ} → Table 256 (up_to (length (faces p)) (face_size p)) all → Table 66 (λ i. get_or all i 0) first → Table 66 (up_to (length (faces p)) (face_size p)) first
-sizes_first p {all} {first} t s = table_cong 66 (λ i. get_or all i 0) (up_to (length (faces p)) (face_size p)) first (λ i l. t.at i (omega arith)) s
+pub sizes_first : (p : Plate) {all : List ℕ} → Table 256 (up_to (length (faces p)) (face_size p)) all → Table 66 (up_to (length (faces p)) (face_size p)) (take 66 all)
+sizes_first p {all} t = record { size = omega (arith, length-take 66 all, t.size); at = λ i l. get_or-take 66 all i 0 l ∙ t.at i (omega arith) }
 
 pub faces_most : (p : Plate) → length (faces p) ≤ darts p
 faces_most p = at_most (darts p) (faces p) (faces_distinct p) (all_of (darts p) (faces p) (faces_below p))

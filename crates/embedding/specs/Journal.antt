@@ -1,7 +1,9 @@
 -- The steps of the editor's journal: what a method hands back, a replay, and what request E11 asks of plates.
-use Rattle.std.specs.Prelude.{◌≡◌, true, List, [], ◌∷◌, ℕ, ◌+◌, ◌<◌, eqb, length}
+use Rattle.std.specs.Prelude.{◌≡◌, Result, IfOk, true, List, [], ◌∷◌, ℕ, ◌+◌, ◌<◌, eqb, length}
 use Rattle.embedding.specs.Plates.{pick, pick_t, is_in, Plate, darts, face_of, faces}
-use Rattle.embedding.specs.Read.{Stands, Accepted}
+use Rattle.refusals.specs.Numbers.{fault_of}
+use Rattle.refusals.specs.declared.Refusal.{Refusal}
+use Rattle.embedding.specs.Read.{meant, Accepted}
 use Rattle.embedding.specs.Edits.{split, hang, join, split_fault, hang_fault, join_fault, SplitTable, HangTable, JoinTable, SameTable}
 use Rattle.embedding.specs.declared.Plate.{Plate as Held}
 use Rattle.embedding.specs.declared.journal.Step.{Step}
@@ -10,8 +12,13 @@ use Rattle.embedding.specs.declared.journal.Edited.{Edited}
 
 -- a step with this fault, to the plate q: 0 and q, or the fault and the plate before
 pub record EditedTo (fault : ℕ) (q : Plate) (before : Held) (r : Edited) : Type 0 where
-  pub number : r.number ≡ fault
-  pub plate : pick_t (eqb fault 0) (Stands r.plate q) (r.plate ≡ before)
+  pub number : fault_of r.verdict ≡ fault
+  pub plate : pick_t (eqb fault 0) (meant r.plate ≡ q) (r.plate ≡ before)
+
+-- a step with this fault, to the plate q: the refusal, or q
+pub record SteppedTo (fault : ℕ) (q : Plate) (r : Result Held Refusal) : Type 0 where
+  pub number : fault_of r ≡ fault
+  pub plate : IfOk r (λ h. meant h ≡ q)
 
 -- a step of the journal: its refusal, and the plate after it
 abbrev pub step_fault : Plate → Step → ℕ

@@ -3,7 +3,8 @@ pub mod Plates
 pub mod Loops
 pub mod Pass
 pub mod Steps
-pub mod Read
 pub mod Edits
+pub mod Meant
+pub mod Read
 pub mod Arrays
 pub mod Journal

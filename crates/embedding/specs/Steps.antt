@@ -1,11 +1,10 @@
 -- What the steps of reading a plate give.
-use Rattle.std.specs.Prelude.{◌≡◌, Bool, true, false, ◌&&◌, ◌||◌, not, List, ◌∷◌, ℕ, ◌+◌, ◌*◌, ◌/◌, ◌%◌, ◌≤◌, ◌<◌, length, get_or, take, drop}
+use Rattle.std.specs.Prelude.{◌≡◌, Option, is_some, IfSome, Bool, true, false, ◌&&◌, ◌||◌, not, List, ◌∷◌, ℕ, ◌+◌, ◌*◌, ◌/◌, ◌%◌, ◌≤◌, ◌<◌, length, get_or, take, drop}
 use Rattle.finite.specs.Tables.{Table, up_to}
 use Rattle.finite.specs.Walks.{orbit}
 use Rattle.embedding.specs.Plates.{pick, is_in, plate, Plate, twin, degree_from, part_of, distinct, all_leave, parts_ok, last_of, just_before, joins}
-use Rattle.embedding.specs.declared.Row.{Row}
-use Rattle.embedding.specs.declared.Gathered.{Gathered}
-use Rattle.embedding.specs.declared.Seen.{Seen}
+pub use Rattle.embedding.specs.Meant.{place_in}
+use Rattle.embedding.specs.declared.reached.Seen.{Seen}
 
 -- the degrees of n posts, none over four
 pub record Few (n : ℕ) (e : List ℕ) (degrees : List ℕ) : Type 0 where
@@ -13,17 +12,13 @@ pub record Few (n : ℕ) (e : List ℕ) (degrees : List ℕ) : Type 0 where
   pub most : (v : ℕ) → v < n → degree_from v e ≤ 4
 
 -- a post's part of the order
-pub record PostRead (e : List ℕ) (v : ℕ) (part : List ℕ) (r : Row) : Type 0 where
-  pub ok : (n : ℕ) (o : List ℕ) (x : ℕ) → r.ok ≡ all_leave (plate n e o x) v part && distinct part
-  pub row : Table 4 (λ i. get_or part i 0) r.row
+pub record PostRead (e : List ℕ) (v : ℕ) (part : List ℕ) (r : Option (List ℕ)) : Type 0 where
+  pub ok : (n : ℕ) (o : List ℕ) (x : ℕ) → is_some r ≡ all_leave (plate n e o x) v part && distinct part
+  pub row : IfSome r (λ row. Table 4 (λ i. get_or part i 0) row)
 
--- the j-th dart of post v at 4 v + j
-abbrev pub place_in : Plate → ℕ → ℕ
-place_in p i = up_to p.posts (λ v. get_or (part_of p v) (i % 4) 0) (i / 4)
-
-pub record OrderRead (n : ℕ) (e o : List ℕ) (r : Gathered) : Type 0 where
-  pub ok : (x : ℕ) → r.ok ≡ parts_ok n 0 (plate n e o x)
-  pub places : r.ok ≡ true → (x : ℕ) → Table 256 (place_in (plate n e o x)) r.places
+pub record OrderRead (n : ℕ) (e o : List ℕ) (r : Option (List ℕ)) : Type 0 where
+  pub ok : (x : ℕ) → is_some r ≡ parts_ok n 0 (plate n e o x)
+  pub places : IfSome r (λ places. (x : ℕ) → Table 256 (place_in (plate n e o x)) places)
 
 -- the dart after d, from the places and the degrees
 abbrev pub after_in : List ℕ → List ℕ → List ℕ → ℕ → ℕ

@@ -1,8 +1,9 @@
 //! The strips gone over once: refusals 9 and 11 and the degrees of the posts. The pass may stop after any strip and go on later.
 ghost use Rattle.std.specs.Prelude.{◌≡◌, ◌≤◌};
+ghost use Rattle.refusals.specs.Numbers.{fault_of};
 ghost use Rattle.embedding.specs.Pass.{no_strips, add_end, add_strip, GoneOn, Answered};
 
-use crate::wide;
+use refusals::Refusal;
 
 // What was met so far: an end that is no post (9), a fifth place taken at a post (11); and how many places are taken at each post, one by each strip end, counted up to four.
 #[derive(Clone, Copy)]
@@ -57,25 +58,23 @@ pub fn go_on(posts: usize, s: Strips, rest: &[u8]) -> Strips
     ensures { GoneOn posts s rest.now result }
 {
     let mut r = s;
-    let mut i = 0;
-    while rest.len() - i > 1 {
-        let a = wide(rest[i]);
-        let b = wide(rest[i + 1]);
-        r = add_strip(posts, r, a, b);
-        i += 2;
+    let mut left = rest;
+    while let [a, b, more @ ..] = left {
+        r = add_strip(posts, r, usize::from(*a), usize::from(*b));
+        left = more;
     }
     r
 }
 
-// 9 or 11, the first that was met, or 0.
-pub fn answer(s: Strips) -> u8
-    ensures { Answered s result }
+// 9 or 11, the first that was met.
+pub fn answer(s: Strips) -> Result<(), Refusal>
+    ensures { Answered s (fault_of result) }
 {
     if s.stray {
-        return 9;
+        return Err(Refusal::EndNotAPost);
     }
     if s.over {
-        return 11;
+        return Err(Refusal::OverFourPlaces);
     }
-    0
+    Ok(())
 }

@@ -1,0 +1,62 @@
+//! The posts reached from post 0.
+ghost use Rattle.std.specs.Prelude.{◌≡◌, List, [], ◌∷◌, ℕ, ◌<◌, ◌≤◌, length};
+ghost use Rattle.embedding.specs.Plates.{reach, plate};
+ghost use Rattle.embedding.specs.Steps.{Joined, RoundMade};
+
+use crate::order::Ordered;
+
+// The posts reached, and how many.
+#[derive(Clone, Copy)]
+pub struct Seen {
+    pub seen: [bool; 64],
+    pub count: usize,
+}
+
+// One strip: where one of its posts is seen, both are.
+fn join(s: Seen, a: usize, b: usize) -> Seen
+    requires { (a < 64) × (b < 64) × (s.count < 1000) }
+    ensures { Joined a b s result }
+{
+    let mut r = s;
+    if s.seen[a] && !s.seen[b] {
+        r.seen[b] = true;
+        r.count += 1;
+    }
+    if s.seen[b] && !s.seen[a] {
+        r.seen[a] = true;
+        r.count += 1;
+    }
+    r
+}
+
+impl Ordered<'_> {
+    // Every strip once.
+    fn round(&self, s: Seen) -> Seen
+        requires { s.count ≤ 64 }
+        ensures { RoundMade self.now.ends.now s result }
+    {
+        let mut r = s;
+        let mut i = 0;
+        while i + 1 < self.ends.len() {
+            r = join(r, self.post_at(i), self.post_at(i + 1));
+            i += 2;
+        }
+        r
+    }
+
+    // How many posts are reached from post 0: rounds until one adds nothing.
+    pub fn reach_count(&self) -> usize
+        ensures { (o : List ℕ) (x : ℕ) → result ≡ length (reach self.now.posts (plate self.now.posts self.now.ends.now o x) (0 ∷ [])) }
+    {
+        let mut seen = [false; 64];
+        seen[0] = true;
+        let mut s = Seen { seen, count: 1 };
+        loop {
+            let r = self.round(s);
+            if r.count == s.count {
+                return s.count;
+            }
+            s = r;
+        }
+    }
+}
