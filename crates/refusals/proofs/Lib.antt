@@ -1,0 +1,3 @@
+-- Laws of refusals.
+pub mod Numbered
+pub mod OneNumber
