@@ -11,7 +11,6 @@ use refusals::Refusal;
 pub mod ordering;
 pub mod writing;
 
-
 /// The length rule of a tag.
 #[derive(Clone, Copy, Debug, PartialEq, Eq)]
 pub enum Rule {
@@ -165,12 +164,7 @@ struct Met<'a> {
 }
 
 // The field at the front of `s`, with the slots met before it and the tag that it may not be below: all six refusals, then the field.
-fn step<'a>(
-    s: &'a [u8],
-    shape: bool,
-    before: Slots<'a>,
-    lowest: u8,
-) -> Result<Met<'a>, Refusal>
+fn step<'a>(s: &'a [u8], shape: bool, before: Slots<'a>, lowest: u8) -> Result<Met<'a>, Refusal>
     ensures { FrontIs shape before.entry.slots lowest s.now result }
 {
     let [tag, high, low, behind @ ..] = s else {

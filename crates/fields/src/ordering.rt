@@ -2,10 +2,9 @@
 ghost use Rattle.std.specs.Prelude.{◌≡◌};
 ghost use Rattle.fields.specs.Ordering.{is_shape_file, ordered_of, OrderSays};
 
-use refusals::Refusal;
-
 use crate::writing::write_field;
 use crate::{first, first_tag, walk_older};
+use refusals::Refusal;
 
 // Whether the first byte is one of a shape file, 10 hexadecimal or above.
 fn is_shape(file: &[u8]) -> bool

@@ -21,8 +21,8 @@ loop-slot-preserved c =
     let i = c.loop-slot.slot in
     elim c.match-field.branch [
       | in-Some w ↦
-        let tag = c.first_tag-tag.result + i in
-        rw (w.out-is, w.at-is)
-        (slot_put held i (omega arith) c.loop-slot.invariant w.in-Some.content w.in-Some.is tag (ap (λ (t : ℕ). t + i) c.first_tag-tag.ensures) w.write_field-at.ensures)
+          let tag = c.first_tag-tag.result + i in
+          rw (w.out-is, w.at-is)
+          (slot_put held i (omega arith) c.loop-slot.invariant w.in-Some.content w.in-Some.is tag (ap (λ (t : ℕ). t + i) c.first_tag-tag.ensures) w.write_field-at.ensures)
       | in_default w ↦ rw (w.out-is, w.at-is) (slot_passed held i (omega arith) c.loop-slot.invariant w.in_default.is)
     ]
