@@ -4,16 +4,12 @@ ghost use Rattle.residual.specs.Chains.{Lined};
 ghost use Rattle.residual.specs.Marks.{mark_of, marks_of, Single, Wants};
 
 use crate::arcs::UNREACHED;
-use crate::chains::clear;
 
 // The mark of a node that has so much left, before a search.
 fn mark_of(left: u16) -> u8
     ensures { result ≡ mark_of left }
 {
-    if left == 0 {
-        return UNREACHED;
-    }
-    0
+    if left == 0 { UNREACHED } else { 0 }
 }
 
 // Marks the nodes that have something left as sources, and no other.
@@ -21,10 +17,8 @@ pub fn mark_sources(left: &[u16], dist: &mut [u8])
     requires { length dist.old ≡ length left.now }
     ensures { dist.new ≡ marks_of left.now }
 {
-    let mut v = 0;
-    while v < dist.len() {
-        dist[v] = mark_of(left[v]);
-        v += 1;
+    for (v, mark) in dist.iter_mut().enumerate() {
+        *mark = mark_of(left[v]);
     }
 }
 
@@ -36,11 +30,7 @@ pub fn mark_only(source: usize, dist: &mut [u8], queue: &mut [u8])
     ensures single { Single dist.new source }
     ensures lined { Lined dist.new 1 queue.new }
 {
-    let mut v = 0;
-    while v < dist.len() {
-        dist[v] = UNREACHED;
-        v += 1;
-    }
+    dist.fill(UNREACHED);
     dist[source] = 0;
     queue[0] = source as u8;
 }
@@ -50,6 +40,6 @@ pub fn want_only(target: usize, wanted: &mut [u16])
     requires { target < length wanted.old }
     ensures { Wants wanted.new target }
 {
-    clear(wanted);
+    wanted.fill(0);
     wanted[target] = 1;
 }
