@@ -5,6 +5,7 @@ ghost use Rattle.residual.specs.Chains.{Chain, Lined};
 ghost use Rattle.residual.specs.Arcs.{ends_of, lowers_of, uppers_of};
 
 use crate::arcs::{Arc, near_end};
+use crate::search::Space;
 
 // For each node its last arc that can move, one more than its number or 0, and for each arc the one before it at the same node; at the ends where a step on, or back, begins.
 pub fn chain(arcs: &[Arc], on: bool, last: &mut [u16], before: &mut [u16])
@@ -24,16 +25,19 @@ pub fn chain(arcs: &[Arc], on: bool, last: &mut [u16], before: &mut [u16])
 }
 
 // Puts the nodes marked 0 at the front of the queue; how many there are.
-pub fn enqueue_sources(dist: &[u8], queue: &mut [u8]) -> usize
-    requires queue_len { length queue.old ≡ length dist.now }
-    requires dist_len_bound { length dist.now ≤ 255 }
-    requires fresh { Fresh dist.now }
-    ensures { Lined dist.now result queue.new }
+pub fn enqueue_sources(space: &mut Space<'_>) -> usize
+    requires queue_len { length space.old.queue.now ≡ length space.old.dist.now }
+    requires dist_len_bound { length space.old.dist.now ≤ 255 }
+    requires fresh { Fresh space.old.dist.now }
+    ensures lined { Lined space.old.dist.now result space.new.queue.now }
+    ensures dist_after { space.new.dist.now ≡ space.old.dist.now }
+    ensures via_after { space.new.via.now ≡ space.old.via.now }
+    ensures queue_len { length space.new.queue.now ≡ length space.old.queue.now }
 {
     let mut count = 0;
-    for (v, mark) in dist.iter().enumerate() {
-        if *mark == 0 {
-            queue[count] = v as u8;
+    for v in 0..space.dist.len() {
+        if space.dist[v] == 0 {
+            space.queue[count] = v as u8;
             count += 1;
         }
     }

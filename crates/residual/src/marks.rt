@@ -1,9 +1,11 @@
 //! The marks of the sources before a search, and the nodes that it is for.
 ghost use Rattle.std.specs.Prelude.{◌≡◌, ◌≤◌, ◌<◌, length};
 ghost use Rattle.residual.specs.Chains.{Lined};
+ghost use Rattle.residual.specs.Graphs.{Workspace};
 ghost use Rattle.residual.specs.Marks.{mark_of, marks_of, Single, Wants};
 
 use crate::arcs::UNREACHED;
+use crate::search::Space;
 
 // The mark of a node that has so much left, before a search.
 fn mark_of(left: u16) -> u8
@@ -23,16 +25,17 @@ pub fn mark_sources(left: &[u16], dist: &mut [u8])
 }
 
 // Marks one node as the source, and no other, and puts it into the queue.
-pub fn mark_only(source: usize, dist: &mut [u8], queue: &mut [u8])
-    requires source_in_bounds { source < length dist.old }
-    requires dist_len_bound { length dist.old ≤ 255 }
-    requires queue_len { length queue.old ≡ length dist.old }
-    ensures single { Single dist.new source }
-    ensures lined { Lined dist.new 1 queue.new }
+pub fn mark_only(source: usize, space: &mut Space<'_>)
+    requires workspace { Workspace (length space.old.dist.now) space.old }
+    requires source_in_bounds { source < length space.old.dist.now }
+    requires dist_len_bound { length space.old.dist.now ≤ 255 }
+    ensures single { Single space.new.dist.now source }
+    ensures lined { Lined space.new.dist.now 1 space.new.queue.now }
+    ensures workspace { Workspace (length space.old.dist.now) space.new }
 {
-    dist.fill(UNREACHED);
-    dist[source] = 0;
-    queue[0] = source as u8;
+    space.dist.fill(UNREACHED);
+    space.dist[source] = 0;
+    space.queue[0] = source as u8;
 }
 
 // Wants one node, and no other.

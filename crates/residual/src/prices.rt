@@ -8,6 +8,7 @@ ghost use Rattle.residual.specs.Prices.{Fits, short, Sums, Slack, Positive, Less
 
 use crate::arcs::{UNREACHED, open_end};
 use crate::graph::{Links, ResidualGraph};
+use crate::search::Space;
 
 // How short of nothing the cost of a step on, or back, is between the potentials of the nodes near and far.
 fn short_by(on: bool, cost: u64, near: u64, far: u64) -> u64
@@ -94,27 +95,27 @@ fn gap_at(r: ResidualGraph, dist: &[u8], u: usize, most: Option<u64>) -> Option<
 }
 
 // The least by which a residual arc that leaves the reached nodes is short of tight, if one is.
-pub fn gap(r: ResidualGraph, dist: &[u8]) -> Option<u64>
-    requires dist_len { length dist.now ≡ r.graph.nodes }
+pub fn gap(r: ResidualGraph, space: &Space<'_>) -> Option<u64>
+    requires dist_len { length space.now.dist.now ≡ r.graph.nodes }
     requires sums { Sums (lists_of r) }
-    ensures gap { Gap (lists_of r.entry) dist.now (unwrap_or result 0) }
+    ensures gap { Gap (lists_of r.entry) space.now.dist.now (unwrap_or result 0) }
     ensures positive { Positive result }
 {
     let mut best = None;
-    for u in 0..dist.len() {
-        best = gap_at(r, dist, u, best);
+    for u in 0..r.graph.nodes {
+        best = gap_at(r, space.dist, u, best);
     }
     best
 }
 
 // Raises the potential of every node that is not reached.
-pub fn raise(pot: &mut [u64], dist: &[u8], by: u64)
-    requires pot_len { length pot.old ≡ length dist.now }
-    requires by_index { (v : ℕ) → 255 ≤ get_or dist.now v 0 → get_or pot.old v 0 + by < 2 ^ 64 }
-    ensures { Raised dist.now by pot.old pot.new }
+pub fn raise(pot: &mut [u64], space: &Space<'_>, by: u64)
+    requires pot_len { length pot.old ≡ length space.now.dist.now }
+    requires by_index { (v : ℕ) → 255 ≤ get_or space.now.dist.now v 0 → get_or pot.old v 0 + by < 2 ^ 64 }
+    ensures { Raised space.now.dist.now by pot.old pot.new }
 {
     for (v, price) in pot.iter_mut().enumerate() {
-        if dist[v] == UNREACHED {
+        if space.dist[v] == UNREACHED {
             *price += by;
         }
     }

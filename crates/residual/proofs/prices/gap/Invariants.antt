@@ -6,4 +6,4 @@ use Rattle.residual.proofs.Gaps.{FromBelow}
 use Rattle.residual.proofs.prices.gap.Given as goal
 
 abbrev pub invariant-loop-u : goal.invariant-loop-u
-invariant-loop-u l = Closest (lists_of l.r) l.dist (FromBelow (lists_of l.r) l.dist l.u) 0 (unwrap_or l.best 0) × Positive l.best
+invariant-loop-u l = Closest (lists_of l.r) l.space.dist.now (FromBelow (lists_of l.r) l.space.dist.now l.u) 0 (unwrap_or l.best 0) × Positive l.best

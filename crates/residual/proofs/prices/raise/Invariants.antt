@@ -3,4 +3,4 @@ use Rattle.residual.specs.Prices.{RaisedTo}
 use Rattle.residual.proofs.prices.raise.Given as goal
 
 abbrev pub invariant-loop-v : goal.invariant-loop-v
-invariant-loop-v l = RaisedTo l.dist l.by l.initial.pot l.v l.pot
+invariant-loop-v l = RaisedTo l.space.dist.now l.by l.initial.pot l.v l.pot
