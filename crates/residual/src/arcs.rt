@@ -16,6 +16,15 @@ pub struct Arc {
     pub cost: u64,
 }
 
+// What stands where no arc is noted yet.
+pub const NO_ARC: Arc = Arc {
+    tail: 0,
+    head: 0,
+    lower: 0,
+    upper: 0,
+    cost: 0,
+};
+
 // The mark of a node that no source leads to. A byte in place of an option, as a search compares marks in order.
 pub const UNREACHED: u8 = 255;
 
