@@ -1,6 +1,6 @@
 -- From the answers of the steps to the plate's fault, and to the plate.
 use mathlib.Core.Path.{◌≡◌, refl, sym, ap, ap₂, subst, ◌∙◌}
-use mathlib.Core.Bool.{Bool, true, false, ◌&&◌, ◌||◌, not}
+use mathlib.Core.Bool.{true, false, ◌&&◌, ◌||◌, not}
 use Rattle.std.proofs.Common.{Err}
 use mathlib.Core.List.{List, [], ◌∷◌}
 use Prim.Native.Nat.{ℕ, ◌+◌, ◌*◌, ◌/◌, ◌%◌, ◌≤◌, ◌<◌}
@@ -26,10 +26,6 @@ use Rattle.embedding.proofs.Faces.{faces_distinct, faces_below}
 use Rattle.embedding.proofs.Counting.{few_at, few_most}
 use Rattle.embedding.proofs.OnePass.{strips_none, fault_parts}
 use Rattle.embedding.proofs.Rotation.{Ordered, length_part, leaves_below, twin_dart, after_below, after_one}
-
--- 0 is no refusal's number
-pub number_some : (e : Refusal) → number_of e ≡ 0 → ⊥
-number_some e h = grind arith
 
 -- a refusal
 refused : (p : Plate) (e : Refusal) → plate_fault p ≡ number_of e → Reads p (Err e)
