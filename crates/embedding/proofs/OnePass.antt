@@ -40,9 +40,6 @@ stopped-after k n es = go (dec_le (2 * k) (length es))
     go (no m) = let all : length es ≤ 2 * k = omega arith in ap₂ (λ (a b : List ℕ). go_on n (state_of n a) b) (take_all (2 * k) es all) (drop_of_length-le es all)
 
 -- both ends of a strip
-pub ends_added : (n a b : ℕ) (s first both : Strips) → first ≡ add_end n a s → both ≡ add_end n b first → both ≡ add_end n b (add_end n a s)
-ends_added n a b s first both p q = q ∙ ap (add_end n b) p
-
 -- a loop over the strips
 go_short : (n : ℕ) (s : Strips) (es : List ℕ) → length es ≤ 1 → go_on n s es ≡ s
 go_short n s [] l = refl
