@@ -11,15 +11,6 @@ use plates::{Listed, Shaped, check_shape, write_shape};
 use std::io;
 use texts::{read_text, write_text};
 
-fn say(rt: &impl Print, text: &[u8]) -> io::Result<()> {
-    rt.write_all(text)
-}
-
-fn say_number(rt: &impl Print, word: &[u8], number: u64) -> io::Result<()> {
-    say(rt, word)?;
-    print!(rt; "{number}")
-}
-
 // Writes bytes in hexadecimal, each behind a blank.
 fn say_bytes(rt: &impl Print, s: &[u8]) -> io::Result<()> {
     for byte in s {
@@ -29,23 +20,15 @@ fn say_bytes(rt: &impl Print, s: &[u8]) -> io::Result<()> {
 }
 
 // How many bytes are still those that all memory here is filled with.
-fn untouched(s: &[u8]) -> u64 {
-    let mut same = 0u64;
-    let mut i = 0;
-    while i < s.len() {
-        if s[i] == 0xee {
-            same += 1;
-        }
-        i += 1;
-    }
-    same
+fn untouched(s: &[u8]) -> usize {
+    s.iter().filter(|byte| **byte == 0xee).count()
 }
 
 // Ends a line with the number of bytes that are untouched, of how many.
-fn say_untouched(rt: &impl Print, word: &[u8], s: &[u8]) -> io::Result<()> {
-    say_number(rt, word, untouched(s))?;
-    say_number(rt, b" of ", s.len() as u64)?;
-    say(rt, b" untouched\n")
+fn say_untouched(rt: &impl Print, word: &str, s: &[u8]) -> io::Result<()> {
+    let same = untouched(s);
+    let all = s.len();
+    println!(rt; " {word} {same} of {all} untouched")
 }
 
 // Writes what shaping answers and what it left in the memory, which was filled with 0xee.
