@@ -18,15 +18,6 @@ invariant_of-layout c = record {
   sized = holds_sized c.args.q c.requires.0;
 }
 
-pub fill_bend_ends-requires : goal.fill_bend_ends-requires
-fill_bend_ends-requires c = (c.requires.1.tails_long, c.requires.1.heads_long)
-
-pub fill_corner_ends-requires : goal.fill_corner_ends-requires
-fill_corner_ends-requires c = let bend = c.fill_bend_ends.ensures in (bend.tails_begun.size, bend.heads_begun.size)
-
-pub fill_corner_rates-requires : goal.fill_corner_rates-requires
-fill_corner_rates-requires c = let bend = c.lay_bend_rates.ensures in (bend.lowers_begun.size, bend.uppers_begun.size, bend.costs_begun.size)
-
 pub fill_demands-requires : goal.fill_demands-requires
 fill_demands-requires c = omega (arith, c.requires.1.demands_long, holds_few c.args.q c.requires.0)
 
