@@ -120,7 +120,11 @@ impl Layout<'_> {
             return 0;
         }
         let corners = 2 * self.sizes[v - self.posts];
-        if v == self.outer { corners + 4 } else { corners }
+        if v == self.outer {
+            corners + 4
+        } else {
+            corners
+        }
     }
 
     // The arcs of the darts: from a dart's face to its twin's.
