@@ -1,27 +1,22 @@
 -- Older files as code holds them: what a slot holds, what writing it puts, and the answers. Assumes nothing.
-use mathlib.Core.Path.{◌≡◌, refl, sym, ap, ap₂, subst, ◌∙◌}
+use mathlib.Core.Path.{◌≡◌, refl, sym, ap, subst, ◌∙◌}
 use mathlib.Core.Bool.{Bool, true, false}
-use mathlib.Core.List.{List, [], ◌∷◌, ◌++◌, append-nil}
+use mathlib.Core.List.{List, [], ◌++◌, append-nil}
 use Prim.Native.Nat.{ℕ, zero, suc, ◌+◌, ◌≤◌, ◌<◌}
 use native.Mathlib.Nat.{le_dest}
 use native.Mathlib.Numerals.{add-one}
 use native.Mathlib.Omega.{arith}
-use Rattle.std.specs.Prelude.{Option, Some, None, Result, Ok, Err, is_some, unwrap_or, option_map}
+use Rattle.std.specs.Prelude.{Some, None, Ok, Err, is_some, unwrap_or, option_map}
 use denote.Bor.{Bor}
 use lib.ListN.{length, get_or, drop, length-append}
 use borrow.Author.Tests.{lt-ltb, le-ltb}
-use Rattle.finite.specs.Base.{pick}
-use Rattle.finite.proofs.Tests.{first_some}
-use Rattle.refusals.specs.declared.Refusal.{Refusal}
 use Rattle.refusals.specs.declared.Refusal.TheVariants.{MemoryShort}
-use Rattle.refusals.specs.Numbers.{number_of}
 use Rattle.fields.specs.Files.{Field, has_tag, content_of, content_at, old_walk, field}
 use Rattle.fields.specs.Rules.{first_tag, tag_at}
 use Rattle.fields.specs.Says.{HoldsBy}
 use Rattle.fields.specs.Writing.{Written}
 use Rattle.fields.specs.Ordering.{field_of, rising, sorted, bytes_in, is_shape_file, ordered_bytes, order_fault, Ordered, ordered_of, OrderWith, OrderSays}
 use Rattle.fields.specs.declared.Slots.{Slots}
-use Rattle.refusals.proofs.Numbered.{some_number}
 use Rattle.fields.proofs.Added.{is_some-content_at, unwrap_or-content_at}
 use Rattle.fields.proofs.Longest.{older_longest}
 use Rattle.fields.proofs.Puts.{put_front, field_long, written_none, written_then}

@@ -3,15 +3,14 @@ use mathlib.Core.Path.{◌≡◌, sym, subst, ap, ◌∙◌}
 use mathlib.Core.Bool.{Bool, true, false, not}
 use mathlib.Core.List.{List, []}
 use Prim.Native.Nat.{ℕ, ◌<◌}
-use Rattle.std.specs.Prelude.{Option, Some, None, Result, Ok, Err, IfOk, unwrap_or, option_map}
+use Rattle.std.specs.Prelude.{Some, None, Result, Ok, unwrap_or, option_map}
 use Rattle.std.proofs.lemmas.Result.{IfOk-weaker}
 use denote.Bor.{Bor}
 use lib.Dec.{lit<}
 use lib.ListN.{get_or}
 use Rattle.finite.specs.Base.{when}
 use Rattle.refusals.specs.declared.Refusal.{Refusal}
-use Rattle.refusals.specs.Numbers.{number_of, fault_of}
-use Rattle.fields.specs.Files.{Field, content_of, all_there, walk_by, walk_all, old_walk}
+use Rattle.fields.specs.Files.{Field, content_of, walk_by, walk_all, old_walk}
 use Rattle.fields.specs.Rules.{tag_at, all_met}
 use Rattle.fields.specs.Says.{SlotsOf, FieldsMet, HoldsBy, ListNamed, ShapeNamed, ListThere, ShapeThere, AllThere, ListFieldsOf, ShapeFieldsOf, ListWalked, ShapeWalked}
 use Rattle.fields.specs.declared.Slots.{Slots}

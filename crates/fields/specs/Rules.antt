@@ -3,7 +3,7 @@ use Rattle.std.specs.Prelude.{◌≡◌, Bool, true, false, ◌&&◌, ◌||◌, 
 use Rattle.finite.specs.Base.{pick, when}
 use Rattle.refusals.specs.Numbers.{fault_of}
 use Rattle.refusals.specs.declared.Refusal.{Refusal}
-use Rattle.fields.specs.Files.{Field, tag_ok, long_ok, head_long, fault_where, field_at}
+use Rattle.fields.specs.Files.{tag_ok, long_ok, head_long, fault_where, field_at}
 use Rattle.fields.specs.declared.Rule.{Rule}
 use Rattle.fields.specs.declared.Rule.TheVariants.{Exactly, EvenUpTo, UpTo}
 use Rattle.fields.specs.declared.Met.{Met}

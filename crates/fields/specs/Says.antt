@@ -1,5 +1,5 @@
 -- What the walk over a file gives.
-use Rattle.std.specs.Prelude.{◌≡◌, Bool, true, false, ◌&&◌, ◌||◌, not, List, [], ℕ, ◌<◌, get_or, Option, Some, None, Result, Ok, Err, IfOk, option_map}
+use Rattle.std.specs.Prelude.{◌≡◌, Bool, true, false, not, List, ℕ, ◌<◌, get_or, Option, Some, None, Result, Ok, Err, IfOk, option_map}
 use Rattle.finite.specs.Base.{when, word_at}
 use Rattle.refusals.specs.Numbers.{number_of, fault_of}
 use Rattle.refusals.specs.declared.Refusal.{Refusal}

@@ -211,6 +211,7 @@ fn walk(s: &[u8], shape: bool, in_order: bool) -> Result<Slots<'_>, Refusal>
     let mut met = Slots { slots: [None; 7] };
     let mut lowest = 0;
     let mut rest = s;
+    // A `while`: each field says how long it is, so no iterator gives them.
     while let [tag, ..] = rest {
         let field = step(rest, shape, met, lowest)?;
         met.slots[field.slot] = Some(field.content);

@@ -1,4 +1,7 @@
 //! Fields written into lent memory.
+//
+// `out` and `at` stay beside each other: of a struct of both, each method's contract has to say that it keeps the memory lent and its
+// length, and each caller has to carry both to its end, where of a slice Rattle knows them by itself.
 ghost use Rattle.std.specs.Prelude.{◌≡◌, ◌+◌, ◌<◌, ◌≤◌, length};
 ghost use Rattle.fields.specs.Files.{two, four, field};
 ghost use Rattle.fields.specs.Writing.{put_at, Written};
@@ -27,6 +30,7 @@ pub fn copy_at(out: &mut [u8], at: usize, content: &[u8])
 }
 
 /// Writes a field from `at` on, and gives the place behind it.
+#[tactic(auto, using(crate::proofs::Puts::field_written))]
 pub fn write_field(out: &mut [u8], at: usize, tag: u8, content: &[u8]) -> usize
     requires { (at + (3 + length content.now) ≤ length out.old) × (length content.now < 65536) }
     ensures { Written at (field tag content.now) out.old out.new result }
