@@ -16,6 +16,7 @@ use Rattle.embedding.specs.Edits.{laid, put_before, renamed, split, hang, join}
 use Rattle.embedding.specs.Arrays.{Front, Appended, row_in, Listed}
 use Rattle.embedding.proofs.Rotation.{Ordered, twin_dart, own_part, leaves_below}
 use Rattle.embedding.proofs.Faultless.{Faultless, faultless}
+use Rattle.embedding.proofs.Answers.{faces_fit}
 use Rattle.embedding.proofs.Degrees.{most_over, degree_most, darts_few}
 use Rattle.embedding.proofs.Counting.{few_at, few_most}
 use Rattle.embedding.proofs.Whole.{PastOrder, part_held}
@@ -53,6 +54,9 @@ module _ {p : Plate} {posts count : ℕ} {ends places degrees : List ℕ} {outer
 
   pub held_darts : count ≤ 256
   held_darts = omega (arith, s.dart_count, darts_few p f o)
+
+  pub held_faces : face_total ≤ 66
+  held_faces = omega (arith, s.face_count, faces_fit p f o)
 
   few : Few p.posts p.ends degrees
   few = record { table = s.post_degrees; most = degree_most p f }
