@@ -1,7 +1,7 @@
 //! Reads an older plate list or shape file from standard input and writes it with its fields in tag order, or prints its refusal.
 #![tactic(auto)]
 
-use console::{read_full, say, say_number};
+use console::read_full;
 use fields::ordering::order_fields;
 use std::io;
 
@@ -10,9 +10,9 @@ fn show(rt: &impl Print, file: &[u8], out: &mut [u8]) -> io::Result<()> {
     let ordered = order_fields(file, out);
     let long = ordered.long;
     if ordered.number != 0 {
-        return say_number(rt, b"refused ", ordered.number as u64);
+        return println!(rt; "refused {}", ordered.number);
     }
-    say(rt, &out[..long])
+    rt.write_all(&out[..long])
 }
 
 // Of longer input only the first 1,024 bytes are read, which have the answer of the whole (`TagOrder.front`). The memory
