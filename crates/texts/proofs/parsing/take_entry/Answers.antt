@@ -17,8 +17,8 @@ returns-then-entry-d c = λ plan es x once is filled.
     let there = ap left_seen c.in_ok-left.was in
     let first = c.in_ok-turn.ensures.cases.0 in
     elim c.then-entry-d.branch [
-      then-entry-d-via-then-entry-d w ↦ other_dart x once is filled _ _ (there ∙ ap (λ ts. Some (laid ts)) first) c.from-d.ensures (search rules) w.if-entry-d.true
-    | then-entry-d-via-else-entry-d+then-entry-turn w ↦ other_end x once is filled _ _ (there ∙ ap (λ ts. Some (laid ts)) first) c.from-d.ensures (search rules) w.if-entry-d.false (ends_other _ _ w.if-entry-turn.true)
+      | then-entry-d-via-then-entry-d w ↦ other_dart x once is filled _ _ (there ∙ ap (λ ts. Some (laid ts)) first) c.from-d.ensures (search rules) w.if-entry-d.true
+      | then-entry-d-via-else-entry-d+then-entry-turn w ↦ other_end x once is filled _ _ (there ∙ ap (λ ts. Some (laid ts)) first) c.from-d.ensures (search rules) w.if-entry-d.false (ends_other _ _ w.if-entry-turn.true)
     ]
 
 pub returns : goal.returns
