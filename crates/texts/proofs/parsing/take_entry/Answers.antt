@@ -1,5 +1,5 @@
 -- `texts::parsing::take_entry`: an entry that is the plan's next, or any other.
-use Rattle.std.proofs.Common.{◌≡◌, ◌∷◌, ◌<◌, [], ◌++◌, Some, ap, sym, subst, ◌∙◌, rules}
+use Rattle.std.proofs.Common.{◌∷◌, ◌<◌, [], ◌++◌, Some, ap, sym, subst, ◌∙◌, rules}
 use Rattle.texts.specs.Plan.{laid}
 use Rattle.texts.specs.Parses.{FilledBy, left_seen}
 use Rattle.texts.proofs.FillLaws.{ends_same, ends_other, taken_late, taken_behind, other_dart, other_end, taken_planned}
