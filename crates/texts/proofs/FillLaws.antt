@@ -2,7 +2,7 @@
 use mathlib.Core.Path.{◌≡◌, refl, sym, ap, subst, ◌∙◌}
 use mathlib.Core.Bool.{Bool, true, false, ◌&&◌, ◌||◌, not, beq}
 use mathlib.Core.List.{List, [], ◌∷◌, ◌++◌}
-use mathlib.Core.Logic.{⊎_elim, ◌⊎◌}
+use mathlib.Core.Logic.{⊎_elim}
 use Prim.Native.Nat.{ℕ, ◌<◌}
 use native.Mathlib.Omega.{arith}
 use lib.Dec.{eqb}
@@ -20,7 +20,7 @@ use Rattle.plates.specs.Shapes.{rights, lefts, same_b}
 use Rattle.plates.specs.Text.{Entry, entry}
 use Rattle.plates.specs.Lines.{is_mixed, some_mixed, same_faces, word_of, angle_of, darts_of}
 use Rattle.texts.specs.Plan.{laid}
-use Rattle.texts.specs.Parses.{capped, GotIs, left_behind, Tables, TablesOf, FilledBy, IsPlan}
+use Rattle.texts.specs.Parses.{capped, GotIs, left_behind, Tables, FilledBy, IsPlan}
 use Rattle.texts.specs.declared.planning.Turn.{Turn}
 use Rattle.texts.specs.declared.entries.Entry.{Entry as Held}
 use Rattle.texts.specs.declared.parsing.Counted.{Counted}

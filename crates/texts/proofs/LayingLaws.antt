@@ -1,7 +1,7 @@
 -- The faces laid one after the other, the outer one first, are the plan of the text. Assumes nothing.
 use mathlib.Core.Path.{◌≡◌, refl, sym, ap, ◌∙◌}
 use mathlib.Core.List.{List, [], ◌∷◌, ◌++◌, append_assoc, append-nil}
-use Prim.Native.Nat.{ℕ, suc, ◌+◌, ◌≤◌, ◌<◌}
+use Prim.Native.Nat.{ℕ, ◌+◌, ◌≤◌, ◌<◌}
 use native.Mathlib.Numerals.{add-one}
 use native.Mathlib.Omega.{arith}
 use lib.ListN.{length, get_or, take, drop, length-append, take-append-drop}
@@ -19,7 +19,7 @@ use Rattle.shapes.proofs.Places.{face_below_darts, index_of_lead}
 use Rattle.shapes.proofs.HeldPlate.{few_faces, faces_are}
 use Rattle.plates.specs.Plates.{Plate, darts, face_of, faces}
 use Rattle.plates.specs.Text.{Entry}
-use Rattle.plates.specs.Lines.{without, sequence, line, lines, face_entries}
+use Rattle.plates.specs.Lines.{without, sequence, line, lines}
 use Rattle.texts.specs.Plan.{laid, FaceRoom, FaceLaid, NumberFits, NumberLaid, OuterIs, Laying, PlanHeld}
 use Rattle.texts.specs.declared.planning.Turn.{Turn}
 use Rattle.texts.proofs.Without.{without_append, without_same, without_other}

@@ -16,7 +16,7 @@ use Rattle.shapes.specs.Judge.{judgement}
 use Rattle.shapes.proofs.Accepted.{faultless, ordered}
 use Rattle.shapes.proofs.Words.{rights_at, rights_long}
 use Rattle.plates.specs.declared.Shaped.{Shaped}
-use Rattle.plates.specs.Plates.{Plate, pick_t, first_of, when, is_in, distinct, darts, faces}
+use Rattle.plates.specs.Plates.{Plate, pick_t, first_of, when, distinct, darts, faces}
 use Rattle.plates.specs.Shapes.{Shape, rights, rights_of, total, posts_ok, faces_ok, twins_ok_from, pair_sums, all_within, shape_of}
 use Rattle.plates.specs.Files.{list_fault, plate_of, limits_of}
 use Rattle.plates.specs.Says.{over, file_long}
@@ -24,7 +24,7 @@ use Rattle.plates.specs.Read.{Walked}
 use Rattle.plates.specs.Encodes.{FileGiven, FileSays, refused_shape}
 use Rattle.plates.specs.Text.{Entry, all_formed}
 use Rattle.plates.specs.Grammar.{form_ok, entries_in}
-use Rattle.plates.specs.Lines.{face_entries, sequence, same_faces, some_mixed, word_of, words_by, angles_by, darts_of}
+use Rattle.plates.specs.Lines.{face_entries, same_faces, some_mixed, word_of, words_by, angles_by, darts_of}
 use Rattle.plates.specs.Texts.{words_read, placed_fault, text_fault, bytes_read, read_fault, ReadWith, ReadSays}
 use Rattle.texts.specs.Plan.{laid, PlanHeld}
 use Rattle.std.specs.Prelude.{Result}

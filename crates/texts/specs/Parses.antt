@@ -1,5 +1,5 @@
 -- What the steps of reading a text give.
-use Rattle.std.specs.Prelude.{◌≡◌, Bool, true, false, ◌&&◌, not, List, [], ◌∷◌, ℕ, zero, suc, ◌-◌, min, eqb, length, get_or, take, drop, Option, Some, None, Result, IfOk}
+use Rattle.std.specs.Prelude.{◌≡◌, Bool, true, ◌&&◌, not, List, [], ◌∷◌, ℕ, zero, suc, ◌-◌, min, eqb, get_or, take, drop, Option, Some, None, Result, IfOk}
 use Rattle.std.specs.Option.{option_map}
 use denote.Ref.{Bor}
 use Rattle.finite.specs.Tables.{Table}

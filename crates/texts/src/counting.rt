@@ -18,6 +18,7 @@ pub fn both_ways(rights: &[u8]) -> bool
     requires { length rights.now ≤ 256 }
     ensures { result ≡ both_ways rights.now }
 {
+    // A while: of `chunks_exact(2).any(..)` the proof did not close, since no clause gives the pairs as a list.
     let mut rest = rights;
     while let [right, left, others @ ..] = rest {
         if 0 < *right && 0 < *left {

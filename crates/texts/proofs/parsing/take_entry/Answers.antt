@@ -1,5 +1,5 @@
 -- `texts::parsing::take_entry`: an entry that is the plan's next, or any other.
-use Rattle.std.proofs.Common.{◌≡◌, ◌∷◌, ◌<◌, [], ◌++◌, Some, ap, sym, subst, ◌∙◌, rules}
+use Rattle.std.proofs.Common.{◌∷◌, ◌<◌, [], ◌++◌, Some, ap, sym, subst, ◌∙◌, rules}
 use Rattle.texts.specs.Plan.{laid}
 use Rattle.texts.specs.Parses.{FilledBy, left_seen}
 use Rattle.texts.proofs.FillLaws.{ends_same, ends_other, taken_late, taken_behind, other_dart, other_end, taken_planned}
@@ -17,8 +17,8 @@ returns-then-entry-d c = λ plan es x once is filled.
     let there = ap left_seen c.in_ok-left.was in
     let first = c.in_ok-turn.ensures.cases.0 in
     elim c.then-entry-d.branch [
-      then-entry-d-via-then-entry-d w ↦ other_dart x once is filled _ _ (there ∙ ap (λ ts. Some (laid ts)) first) c.from-d.ensures (search rules) w.if-entry-d.true
-    | then-entry-d-via-else-entry-d+then-entry-turn w ↦ other_end x once is filled _ _ (there ∙ ap (λ ts. Some (laid ts)) first) c.from-d.ensures (search rules) w.if-entry-d.false (ends_other _ _ w.if-entry-turn.true)
+      | then-entry-d-via-then-entry-d w ↦ other_dart x once is filled _ _ (there ∙ ap (λ ts. Some (laid ts)) first) c.from-d.ensures (search rules) w.if-entry-d.true
+      | then-entry-d-via-else-entry-d+then-entry-turn w ↦ other_end x once is filled _ _ (there ∙ ap (λ ts. Some (laid ts)) first) c.from-d.ensures (search rules) w.if-entry-d.false (ends_other _ _ w.if-entry-turn.true)
     ]
 
 pub returns : goal.returns

@@ -1,5 +1,5 @@
 -- `texts::printing::word_long`: a digit for each bend, or -.
-use Rattle.std.proofs.Common.{◌∙◌, ap, ◌+◌}
+use Rattle.std.proofs.Common.{◌∙◌, ◌+◌}
 use Prim.Native.Nat.{max}
 use Rattle.texts.proofs.PrintLaws.{word_counted}
 use Rattle.texts.proofs.printing.word_long.Goals as goal

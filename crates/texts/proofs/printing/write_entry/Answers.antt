@@ -1,5 +1,5 @@
 -- `texts::printing::write_entry` writes the number, the word and the angle in turn.
-use Rattle.std.proofs.Common.{◌≡◌, ◌∙◌, sym, ap, ℕ, ◌+◌, ◌∷◌, [], arith, rules}
+use Rattle.std.proofs.Common.{◌≡◌, ◌∙◌, sym, ap, ℕ, ◌+◌, ◌∷◌, [], arith}
 use lib.ListN.{length-set}
 use Rattle.plates.specs.Plates.{pick}
 use Rattle.plates.specs.Text.{angle_text}

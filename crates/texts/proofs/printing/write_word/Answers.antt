@@ -1,5 +1,5 @@
 -- `texts::printing::write_word` writes a run of one byte.
-use Rattle.std.proofs.Common.{◌≡◌, ◌∙◌, sym, ap, length, ◌-◌, arith, rules}
+use Rattle.std.proofs.Common.{◌≡◌, ◌∙◌, sym, ap, length, arith, rules}
 use lib.ListN.{replicate, length-replicate}
 use Rattle.texts.proofs.PrintLaws.{part_written}
 use Rattle.plates.specs.Shapes.{even_word}
