@@ -1,5 +1,5 @@
 -- Every refusal has a number other than 0.
-use Rattle.std.proofs.Common.{◌≡◌, ℕ}
+use Rattle.std.proofs.Common.{◌≡◌}
 use Rattle.refusals.specs.declared.Refusal.{Refusal}
 use Rattle.refusals.specs.declared.Refusal.TheVariants.{FieldCut, UnknownTag, RepeatedTag, FieldLength, ContentCut, FieldAbsent, PostCount, NoStrips, EndNotAPost, OverFourPlaces, ClockwiseOrder, OuterDart, NotConnected, NotPlane, MemoryShort, ShapeLength, RevisionDiffers, AngleRange, AnglesAtPost, TurnsOfFace, TotalDiffers, LimitsLength, NoShapeWithin, LimitPassed, TagOrder, TextForm, MixedWord, TextFaces, NoSuchStep, PlateFull, PostFull, EntryCut, RevisionListed, NotCurrent}
 use Rattle.refusals.specs.Numbers.{number_of}
