@@ -2,12 +2,12 @@
 use mathlib.Core.Path.{◌≡◌, refl, sym, ap, subst, ◌∙◌}
 use mathlib.Core.Bool.{true}
 use Rattle.std.proofs.Common.{Result}
-use mathlib.Core.List.{List, [], ◌∷◌, ◌++◌, append-nil, append_assoc}
+use mathlib.Core.List.{List, [], ◌∷◌, ◌++◌, append_assoc}
 use mathlib.Core.Logic.{⊎_elim}
 use Prim.Native.Nat.{ℕ, suc, ◌+◌, ◌-◌, ◌*◌, ◌≤◌, ◌<◌}
 use native.Mathlib.Omega.{arith}
-use lib.ListN.{length, get_or, take, drop, set, length-set, length-append, length-drop, drop_of_length-le}
-use lib.Seq.{take_all, take-suc, take-suc-set, take-set-lt, length-take-le}
+use lib.ListN.{length, get_or, take, drop, set, length-set, length-append, length-drop}
+use lib.Seq.{take_all, take-suc-set, take-set-lt, length-take-le}
 use Rattle.finite.proofs.Tests.{either, equal_or_not, not_true_false}
 use Rattle.embedding.specs.Plates.{is_in, distinct, Plate, plate}
 use Rattle.embedding.specs.Read.{place_of, Reads}
@@ -15,7 +15,6 @@ use Rattle.embedding.specs.Edits.{laid, put_before, renamed}
 use Rattle.embedding.specs.Arrays.{Front, Appended, row_in, Listed}
 use Rattle.refusals.specs.declared.Refusal.{Refusal}
 use Rattle.embedding.specs.declared.Plate.{Plate as Held}
-use Rattle.embedding.proofs.Fronts.{front}
 use Rattle.embedding.proofs.Placing.{put_none}
 use Rattle.embedding.proofs.Flat.{place_none, place_some, put_placed, renamed_none, renamed_placed}
 use Rattle.embedding.proofs.Answers.{place_hit, place_miss}
@@ -37,6 +36,7 @@ front_one {l} {xs} at a f e k =
       front = ap (λ (j : ℕ). take j (set xs at a)) {x = length (l ++ (a ∷ []))} {y = suc at} (omega (arith, length-append l (a ∷ [])))
           ∙ take-suc-set xs at a (omega (arith, f.size)) ∙ ap (λ (m : List ℕ). m ++ (a ∷ [])) (front_take f e);
     }
+
 -- one of it changed
 pub front_set : {l xs : List ℕ} (i y : ℕ) → Front l xs → i < length l → Front (set l i y) (set xs i y)
 front_set {l} {xs} i y f k =
@@ -95,6 +95,7 @@ pub record Laying (places degrees : List ℕ) (v at : ℕ) (all : List ℕ) : Ty
   pub done : Front (laid v (row_in places degrees)) all
   pub long : length (laid v (row_in places degrees)) ≡ at
   pub most : at ≤ 4 * v
+
 row_long : (places degrees : List ℕ) (v : ℕ) → get_or degrees v 0 ≤ 4 → length places ≡ 256 → v < 64 → length (row_in places degrees v) ≡ get_or degrees v 0
 row_long places degrees v few size room = length-take-le (get_or degrees v 0) (drop (4 * v) places) (omega (arith, length-drop (4 * v) places))
 

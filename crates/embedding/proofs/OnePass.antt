@@ -14,7 +14,7 @@ use Rattle.finite.specs.Tables.{Table, up_to}
 use Rattle.finite.proofs.Tables.{table_cong, table_set, up_below, up_cong}
 use Rattle.finite.proofs.Tests.{equal_or_not, or_right, first_none, first_assoc, when_none}
 use Rattle.embedding.specs.Plates.{pick, first_of, when, Plate, darts, degree_from, degree, all_below, over_four, plate_fault}
-use Rattle.embedding.specs.Pass.{no_strips, add_end, add_strip, go_on, state_of, stopped_after, first_met, answer_of, strips_fault, early_fault, late_fault, pass_fault, GoneOn, Answered}
+use Rattle.embedding.specs.Pass.{no_strips, add_strip, go_on, state_of, stopped_after, first_met, answer_of, strips_fault, early_fault, late_fault, pass_fault, GoneOn, Answered}
 use Rattle.embedding.specs.Steps.{Few}
 use Rattle.embedding.specs.declared.strips.Strips.{Strips}
 use Rattle.embedding.proofs.Fronts.{two_front}

@@ -1,11 +1,11 @@
 -- From the answers of the steps to the plate's fault, and to the plate.
 use mathlib.Core.Path.{◌≡◌, refl, sym, ap, ap₂, subst, ◌∙◌}
-use mathlib.Core.Bool.{true, false, ◌&&◌, ◌||◌, not}
+use mathlib.Core.Bool.{true, ◌||◌, not}
 use Rattle.std.proofs.Common.{Err}
 use mathlib.Core.List.{List, [], ◌∷◌}
 use Prim.Native.Nat.{ℕ, ◌+◌, ◌*◌, ◌/◌, ◌%◌, ◌≤◌, ◌<◌}
 use native.Mathlib.Omega.{arith}
-use borrow.Author.Tests.{eqb-false, eq-eqb, ne_eqb, ltb-false, le-leb, lt-leb}
+use borrow.Author.Tests.{eqb-false, eq-eqb, ne_eqb, ltb-false, lt-leb}
 use lib.Dec.{eqb, ltb}
 use lib.ListN.{length, get_or, take, drop, length-take, length-drop}
 use lib.Seq.{get_or-take, get_or-drop, ext_get_or}
@@ -21,7 +21,7 @@ use Rattle.embedding.specs.Pass.{strips_fault, early_fault, late_fault}
 use Rattle.embedding.specs.Read.{Follows, face_size, Past, Reads}
 use Rattle.refusals.specs.Numbers.{number_of}
 use Rattle.refusals.specs.declared.Refusal.{Refusal}
-use Rattle.refusals.specs.declared.Refusal.TheVariants.{ClockwiseOrder, OuterDart, NotConnected, NotPlane}
+use Rattle.refusals.specs.declared.Refusal.TheVariants.{NotPlane}
 use Rattle.embedding.proofs.Faces.{faces_distinct, faces_below}
 use Rattle.embedding.proofs.Counting.{few_at, few_most}
 use Rattle.embedding.proofs.OnePass.{strips_none, fault_parts}

@@ -25,7 +25,7 @@ pub struct Edited {
     pub verdict: Result<(), Refusal>,
 }
 
-// `s` written from `at` on.
+// `s` written from `at` on. Without a heap a list is the front of an array, and its length goes beside it.
 pub fn append(list: [u8; 256], at: usize, s: &[u8]) -> [u8; 256]
     requires { at + length s.now ≤ 256 }
     ensures { Appended at s.now list result }
