@@ -868,7 +868,9 @@ fn ring_post(mut list: [u8; 614], v: u8) -> [u8; 614]
 fn ring_list() -> [u8; 614] {
     let mut list = ring_heads();
     for v in 0..64 {
-        list = ring_post(list, v);
+        // A local between: a call's result is not laid in an array that was handed to it.
+        let more = ring_post(list, v);
+        list = more;
     }
     list
 }
