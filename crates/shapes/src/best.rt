@@ -1,9 +1,7 @@
 //! The best shape of a plate: the first of the cheapest flows, read as right bends and angles.
 ghost use Rattle.std.specs.Prelude.{◌≡◌, ℕ, ◌+◌, ◌%◌, ◌<◌, ◌≤◌, length, get_or, take};
 ghost use Rattle.finite.specs.Tables.{Table};
-ghost use Rattle.embedding.specs.Plates.{Plate as PlateOf};
-ghost use Rattle.embedding.specs.Read.{Stands};
-ghost use Rattle.shapes.specs.Claims.{Standing, Accepted};
+ghost use Rattle.embedding.specs.Read.{meant};
 ghost use Rattle.shapes.specs.Rates.{rates, Fair, pair_sums};
 ghost use Rattle.shapes.specs.Entries.{Lent};
 ghost use Rattle.shapes.specs.BestOf.{BestHeld, Answers, Paired, Small, Taken};
@@ -87,8 +85,8 @@ fn best_in(
     demands: &mut [u16],
     x: &mut [u16],
 ) -> Option<BestShape>
-    requires { Standing q × Fair (rates by.limits.now by.prices.now) × Lent q tails.old heads.old lowers.old uppers.old costs.old supplies.old demands.old × (length x.old ≡ q.darts + (q.darts + q.darts)) }
-    ensures { (p : PlateOf) → Stands q p → Accepted p → Answers p (rates by.entry.limits.now by.entry.prices.now) result }
+    requires { Fair (rates by.limits.now by.prices.now) × Lent q tails.old heads.old lowers.old uppers.old costs.old supplies.old demands.old × (length x.old ≡ q.darts + (q.darts + q.darts)) }
+    ensures { Answers (meant q) (rates by.entry.limits.now by.entry.prices.now) result }
 {
     let darts = q.darts;
     lay_network(
@@ -102,8 +100,8 @@ fn best_in(
 
 /// The best shape of an accepted plate within limits, by prices of bends, if some shape keeps the limits.
 pub fn best_by(q: Plate, by: StripRates) -> Option<BestShape>
-    requires { Standing q × Fair (rates by.limits.now by.prices.now) }
-    ensures { (p : PlateOf) → Stands q p → Accepted p → Answers p (rates by.entry.limits.now by.entry.prices.now) result }
+    requires { Fair (rates by.limits.now by.prices.now) }
+    ensures { Answers (meant q) (rates by.entry.limits.now by.entry.prices.now) result }
 {
     let arcs = q.darts + (q.darts + q.darts);
     let nodes = q.posts + q.faces;
@@ -131,8 +129,7 @@ pub fn best_by(q: Plate, by: StripRates) -> Option<BestShape>
 
 /// The best shape of an accepted plate: no limits, and each bend costs 1.
 pub fn best(q: Plate) -> BestShape
-    requires { Standing q }
-    ensures { (p : PlateOf) → Stands q p → Accepted p → BestHeld p result }
+    ensures { BestHeld (meant q) result }
 {
     best_by(
         q,

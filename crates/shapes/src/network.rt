@@ -2,9 +2,7 @@
 ghost use Rattle.std.specs.Prelude.{◌≡◌, ◌+◌, ◌/◌, ◌<◌, ◌≤◌, length, get_or};
 ghost use Rattle.finite.specs.Tables.{Table};
 ghost use Rattle.flow.specs.Network.{network};
-ghost use Rattle.embedding.specs.Plates.{Plate as PlateOf};
-ghost use Rattle.embedding.specs.Read.{Stands};
-ghost use Rattle.shapes.specs.Claims.{Standing, Accepted};
+ghost use Rattle.embedding.specs.Read.{meant};
 ghost use Rattle.shapes.specs.Rates.{rates};
 ghost use Rattle.shapes.specs.NetworkOf.{bend_most, rated_of};
 ghost use Rattle.shapes.specs.Entries.{node_at, joint_at, corner_most, supply_at, demand_at, Faced, Jointed, Sized, BendEnds, BendRates, CornerEnds, CornerRates, Lent};
@@ -196,8 +194,8 @@ pub fn lay_network(
     supplies: &mut [u16],
     demands: &mut [u16],
 )
-    requires { Standing q × Lent q tails.old heads.old lowers.old uppers.old costs.old supplies.old demands.old }
-    ensures { (p : PlateOf) → Stands q p → Accepted p → network tails.new heads.new lowers.new uppers.new costs.new supplies.new demands.new ≡ rated_of p (rates by.entry.limits.now by.entry.prices.now) }
+    requires { Lent q tails.old heads.old lowers.old uppers.old costs.old supplies.old demands.old }
+    ensures { network tails.new heads.new lowers.new uppers.new costs.new supplies.new demands.new ≡ rated_of (meant q) (rates by.entry.limits.now by.entry.prices.now) }
 {
     let posts = q.posts;
     let darts = q.darts;
