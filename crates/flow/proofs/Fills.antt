@@ -1,7 +1,9 @@
 -- Lists filled from the front, sums over a part of a list, and sums by node filled an arc at a time.
 use mathlib.Core.Path.{◌≡◌, refl, sym, ap, ◌∙◌}
 use mathlib.Core.Bool.{Bool}
-use mathlib.Core.List.{List}
+use mathlib.Core.List.{List, [], ◌∷◌}
+use Rattle.std.proofs.Common.{sum}
+use Rattle.std.proofs.lemmas.List.Sums.{sum_by-cons}
 use Prim.Native.Nat.{ℕ, ◌+◌, ◌≤◌, ◌<◌}
 use native.Mathlib.Omega.{arith}
 use borrow.Author.Tests.{eq-eqb, ne_eqb}
@@ -109,3 +111,8 @@ zeros_part k n h = record {
     | no d ↦ get_or-eq_default (take k (zeros n)) 0 {n = i} (omega (arith, d, part_long k n h))
   ];
 }
+
+-- the library's sum of a list of numbers
+pub sum_total : (xs : List ℕ) → sum xs ≡ total xs
+sum_total [] = refl
+sum_total (x ∷ xs) = sum_by-cons (λ (y : ℕ). y) x xs ∙ ap (λ (n : ℕ). x + n) (sum_total xs)

@@ -1,5 +1,7 @@
 -- A phase of the solver: how far potentials can rise, what a raise and a new search make, and what a push sends.
 use mathlib.Core.Path.{◌≡◌, refl, sym, ap, ◌∙◌, subst}
+use Rattle.std.proofs.Common.{Option, Some, None}
+use Rattle.std.specs.Option.{IfNone}
 use mathlib.Core.Logic.{⊎_elim}
 use mathlib.Core.List.{List}
 use Prim.Native.Nat.{ℕ, zero, suc, ◌+◌, ◌-◌, ◌*◌, ◌^◌, ◌≤◌, ◌<◌}
@@ -9,7 +11,6 @@ use native.Mathlib.Omega.{arith}
 use lib.ListN.{length, get_or, set, length-set, get_or-eq_default}
 use Rattle.finite.proofs.Sums.{total_set}
 use Rattle.residual.specs.Residual.{Residual, Within, Shaped, Rooted, Searched, Pushed, reflowed, repriced, tail_of, head_of, reached, unreached}
-use Rattle.residual.specs.Chains.{Chains, Workspace}
 use Rattle.residual.specs.Searches.{Lacks, Sought}
 use Rattle.residual.specs.Prices.{Gap, Raised, Sums}
 use Rattle.residual.proofs.Sources.{marks_long, source_marked, marked_source, some_left}
@@ -110,51 +111,34 @@ module _ (r : Residual) (rest : ℕ) (left lack dist via : List ℕ) (k : Ready 
       (λ w. omega (arith, w.1, price_reached (head_of r a) w.0.near_in))
       l
 
--- ---- the space to search in
-
--- it is kept as long as its lists keep their lengths
-pub workspace_kept : {tails heads lowers uppers : List ℕ} {nodes nodes' : ℕ} {dist via queue outs outlinks ins inlinks dist' via' queue' : List ℕ} → nodes' ≡ nodes → length dist' ≡ length dist → length via' ≡ length via → length queue' ≡ length queue
-    → Workspace tails heads lowers uppers nodes dist via queue outs outlinks ins inlinks → Workspace tails heads lowers uppers nodes' dist' via' queue' outs outlinks ins inlinks
-workspace_kept {tails = tails} {heads = heads} {lowers = lowers} {uppers = uppers} {outs = outs} {outlinks = outlinks} {ins = ins} {inlinks = inlinks} e d v q w = record {
-  dist_long = d ∙ w.dist_long ∙ sym e;
-  via_long = v ∙ w.via_long ∙ sym e;
-  queue_long = q ∙ w.queue_long ∙ sym e;
-  chains = subst (λ (n : ℕ). Chains tails heads lowers uppers n outs outlinks ins inlinks) (sym e) w.chains;
-}
-
 -- ---- the first search of a phase
 
-module _ (r : Residual) (left lack dist via : List ℕ) (v : ℕ) (some : 0 < total left) where
-  pub explored_first : Ready r (phase_most * total left) left lack → Sought r 0 (marks_of left) lack dist via v → Explored r left lack dist via v
+-- what holds holds where there is none
+if_none : {P : Type 0} (o : Option ℕ) → P → IfNone o P
+if_none None p = p
+if_none (Some v) p = tt
+
+module _ (r : Residual) (left lack dist via : List ℕ) (found : Option ℕ) (some : 0 < total left) where
+  pub explored_first : Ready r (phase_most * total left) left lack → Sought r 0 (marks_of left) lack dist via found → Explored r left lack dist via found
   explored_first k s =
       let (u, l, p) = some_left left some in
       let few = unreached_source dist u (omega (arith, dist_long r (phase_most * total left) left lack dist via k s.rooted)) (omega (arith, source_reached r (phase_most * total left) left lack dist via k s.rooted u p)) in
       record {
         ready = ready_rest r (phase_most * total left) (phase_most * (total left - 1)) left lack (omega arith) k;
         sought = s;
-        raises = λ _. ready_rest r (phase_most * total left) (raise_most * unreached dist + phase_most * (total left - 1)) left lack
-            (omega (arith, few, dist_long r (phase_most * total left) left lack dist via k s.rooted, k.shaped.nodes_few)) k;
+        raises = if_none found (ready_rest r (phase_most * total left) (raise_most * unreached dist + phase_most * (total left - 1)) left lack
+            (omega (arith, few, dist_long r (phase_most * total left) left lack dist via k s.rooted, k.shaped.nodes_few)) k);
       }
 
--- all that is 255 or more tells the same: no node was reached
-pub explored_stuck : (r : Residual) (left lack dist via : List ℕ) (v : ℕ) → 255 ≤ v → Explored r left lack dist via v → Explored r left lack dist via 255
-explored_stuck r left lack dist via v h x = record {
-  ready = x.ready;
-  sought = record { rooted = x.sought.rooted; some = λ l. absurd (omega arith); closed = λ _. x.sought.closed h; none = λ _. x.sought.none h };
-  raises = λ _. x.raises h;
-}
-
--- ---- a raise where no node that lacks something is reached, and the search after it
-
-module _ (r : Residual) (left lack dist via : List ℕ) (v : ℕ) (x : Explored r left lack dist via v) (none : 255 ≤ v) where
+module _ (r : Residual) (left lack dist via : List ℕ) (x : Explored r left lack dist via None) where
   abbrev rest : ℕ
   rest = raise_most * unreached dist + phase_most * (total left - 1)
 
   abbrev k : Ready r rest left lack
-  k = x.raises none
+  k = x.raises
 
   s : Searched r 0 (marks_of left) dist via
-  s = searched_whole none x.sought
+  s = searched_whole x.sought
 
   stuck_nodes : length dist ≡ length left
   stuck_nodes = dist_long r rest left lack dist via k s.rooted
@@ -193,17 +177,20 @@ module _ (r : Residual) (left lack dist via : List ℕ) (v : ℕ) (x : Explored 
           (price r dist g pot' q u);
     }
 
-    module _ (dist' via' : List ℕ) (v' : ℕ) (n : Sought (repriced r pot') 0 (marks_of left) lack dist' via' v') where
-      pub fewer_unreached : 255 ≤ v' → unreached dist' < unreached dist
-      fewer_unreached h =
-          search_further r (marks_of left) dist via s g m pos pot' q dist' via' (searched_whole h n) shaped_stuck
+    module _ (dist' via' : List ℕ) where
+      pub fewer_unreached : Sought (repriced r pot') 0 (marks_of left) lack dist' via' None → unreached dist' < unreached dist
+      fewer_unreached n = search_further r (marks_of left) dist via s g m pos pot' q dist' via' (searched_whole n) shaped_stuck
 
-      pub explored_again : Explored (repriced r pot') left lack dist' via' v'
-      explored_again = record {
+      pub explored_again : (found : Option ℕ) → Sought (repriced r pot') 0 (marks_of left) lack dist' via' found → Explored (repriced r pot') left lack dist' via' found
+      explored_again found n = record {
         ready = raised_ready (phase_most * (total left - 1)) (omega (arith, some_unreached));
         sought = n;
-        raises = λ h. raised_ready (raise_most * unreached dist' + phase_most * (total left - 1)) (omega (arith, fewer_unreached h));
+        raises = rises found n;
       }
+        where
+          rises : (found : Option ℕ) → Sought (repriced r pot') 0 (marks_of left) lack dist' via' found → IfNone found (Ready (repriced r pot') (raise_most * unreached dist' + phase_most * (total left - 1)) left lack)
+          rises None n = raised_ready (raise_most * unreached dist' + phase_most * (total left - 1)) (omega (arith, fewer_unreached n))
+          rises (Some v) n = tt
 
   -- ---- nothing can be sent
 
@@ -214,7 +201,7 @@ module _ (r : Residual) (left lack dist via : List ℕ) (v : ℕ) (x : Explored 
         ready = ready_rest r rest 0 left lack (omega arith) k;
         marks = dist;
         long = stuck_nodes;
-        met = λ w h. x.sought.none none w (omega (arith, stuck_nodes));
+        met = λ w h. x.sought.none w (omega (arith, stuck_nodes));
         source = u;
         node = node;
         marked = omega (arith, source_reached r rest left lack dist via k s.rooted u p);
@@ -225,7 +212,7 @@ module _ (r : Residual) (left lack dist via : List ℕ) (v : ℕ) (x : Explored 
 
 -- ---- one unit is sent to the node that was reached
 
-module _ (r : Residual) (left lack dist via : List ℕ) (target : ℕ) (x : Explored r left lack dist via target) where
+module _ (r : Residual) (left lack dist via : List ℕ) (target : ℕ) (x : Explored r left lack dist via (Some target)) where
   abbrev here : ℕ
   here = phase_most * (total left - 1)
 
@@ -235,9 +222,9 @@ module _ (r : Residual) (left lack dist via : List ℕ) (target : ℕ) (x : Expl
   pub shaped_here : Shaped r (length dist)
   shaped_here = subst (Shaped r) (sym nodes_reached) x.ready.shaped
 
-  module _ (found : target < 255) (x' : List ℕ) (source : ℕ) (p : Pushed r 0 dist target x' source) where
+  module _ (x' : List ℕ) (source : ℕ) (p : Pushed r 0 dist target x' source) where
     abbrev lacking : Lacks dist lack target
-    lacking = x.sought.some found
+    lacking = x.sought.some
 
     pub source_in : source < length left
     source_in = omega (arith, p.node, nodes_reached)

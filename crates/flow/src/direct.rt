@@ -1,111 +1,65 @@
 //! Units that can go over one tight arc are sent first, without a search.
-ghost use Rattle.std.specs.Prelude.{◌≡◌, ◌*◌, ◌<◌, min, length};
-ghost use Rattle.residual.specs.Residual.{residual};
-ghost use Rattle.residual.specs.Chains.{Chain};
+ghost use Rattle.std.specs.Prelude.{◌≡◌, ◌*◌, ◌<◌, length};
+ghost use Rattle.residual.specs.Arcs.{tails_of, heads_of};
+ghost use Rattle.residual.specs.Graphs.{residual_on};
 ghost use Rattle.flow.specs.Network.{total};
 ghost use Rattle.flow.specs.Solver.{Carried, Ready, Eased, phase_most};
 
-use residual::arcs::{end_of, is_tight};
-
-// The lesser of two numbers of units.
-fn fewer_of(m: u16, n: u16) -> u16
-    ensures { result ≡ min m n }
-{
-    if m < n {
-        return m;
-    }
-    n
-}
+use crate::nodes::Units;
+use residual::arcs::{far_end, is_tight, near_end};
+use residual::graph::Graph;
 
 // Sends over arc a what its tail has left, its head lacks and the arc has room for, if the arc is tight.
-fn send_over(
-    tails: &[u8],
-    heads: &[u8],
-    lowers: &[u16],
-    uppers: &[u16],
-    costs: &[u64],
-    x: &mut [u16],
-    pot: &[u64],
-    left: &mut [u16],
-    lack: &mut [u16],
-    a: usize,
-)
-    requires ready { Ready (residual tails.now heads.now lowers.now uppers.now costs.now x.old pot.now) (phase_most * total left.old) left.old lack.old }
-    requires a_in_bounds { a < length tails.now }
-    ensures carried { Carried tails.now heads.now x.old left.old lack.old x.new left.new lack.new }
-    ensures eased { Eased (residual tails.now heads.now lowers.now uppers.now costs.now x.new pot.now) left.new lack.new left.old }
+fn send_over(graph: Graph, x: &mut [u16], pot: &[u64], units: &mut Units<'_>, a: usize)
+    requires ready { Ready (residual_on graph x.old pot.now) (phase_most * total units.old.left.now) units.old.left.now units.old.lack.now }
+    requires a_in_bounds { a < length graph.arcs.now }
+    ensures carried { Carried (tails_of graph.entry.arcs.now) (heads_of graph.entry.arcs.now) x.old units.old.left.now units.old.lack.now x.new units.new.left.now units.new.lack.now }
+    ensures eased { Eased (residual_on graph.entry x.new pot.now) units.new.left.now units.new.lack.now units.old.left.now }
 {
-    let t = end_of(tails, left.len(), a);
-    let h = end_of(heads, left.len(), a);
-    let some = fewer_of(left[t], lack[h]);
+    let t = near_end(graph.arcs, true, a);
+    let h = far_end(graph.arcs, true, a);
+    let some = units.left[t].min(units.lack[h]);
     if some == 0 {
         return;
     }
-    if !is_tight(costs[a], pot[t], pot[h]) {
+    let arc = graph.arcs[a];
+    if !is_tight(arc.cost, pot[t], pot[h]) {
         return;
     }
-    let units = fewer_of(some, uppers[a] - x[a]);
-    x[a] += units;
-    left[t] -= units;
-    lack[h] -= units;
+    let sent = some.min(arc.upper - x[a]);
+    x[a] += sent;
+    units.left[t] -= sent;
+    units.lack[h] -= sent;
 }
 
 // Sends what node v has left over single tight arcs to nodes that lack some; later arcs first.
-fn send_from(
-    tails: &[u8],
-    heads: &[u8],
-    lowers: &[u16],
-    uppers: &[u16],
-    costs: &[u64],
-    x: &mut [u16],
-    pot: &[u64],
-    left: &mut [u16],
-    lack: &mut [u16],
-    outs: &[u16],
-    outlinks: &[u16],
-    v: usize,
-)
-    requires ready { Ready (residual tails.now heads.now lowers.now uppers.now costs.now x.old pot.now) (phase_most * total left.old) left.old lack.old }
-    requires chain { Chain tails.now lowers.now uppers.now (length left.old) outs.now outlinks.now }
-    requires v_in_bounds { v < length left.old }
-    ensures carried { Carried tails.now heads.now x.old left.old lack.old x.new left.new lack.new }
-    ensures eased { Eased (residual tails.now heads.now lowers.now uppers.now costs.now x.new pot.now) left.new lack.new left.old }
+fn send_from(graph: Graph, x: &mut [u16], pot: &[u64], units: &mut Units<'_>, v: usize)
+    requires ready { Ready (residual_on graph x.old pot.now) (phase_most * total units.old.left.now) units.old.left.now units.old.lack.now }
+    requires v_in_bounds { v < graph.nodes }
+    requires v_in_left { v < length units.old.left.now }
+    ensures carried { Carried (tails_of graph.entry.arcs.now) (heads_of graph.entry.arcs.now) x.old units.old.left.now units.old.lack.now x.new units.new.left.now units.new.lack.now }
+    ensures eased { Eased (residual_on graph.entry x.new pot.now) units.new.left.now units.new.lack.now units.old.left.now }
 {
-    if left[v] == 0 {
+    if units.left[v] == 0 {
         return;
     }
-    let mut at = outs[v] as usize;
+    let mut at = usize::from(graph.outs.last[v]);
+    // A while: each arc names the next one.
     while at > 0 {
         let a = at - 1;
-        send_over(tails, heads, lowers, uppers, costs, x, pot, left, lack, a);
-        at = outlinks[a] as usize;
+        send_over(graph, x, pot, units, a);
+        at = usize::from(graph.outs.before[a]);
     }
 }
 
 // Sends units over single tight arcs, each from a node that has some left to one that lacks some: node by node, later arcs first.
-pub fn send_direct(
-    tails: &[u8],
-    heads: &[u8],
-    lowers: &[u16],
-    uppers: &[u16],
-    costs: &[u64],
-    x: &mut [u16],
-    pot: &[u64],
-    left: &mut [u16],
-    lack: &mut [u16],
-    outs: &[u16],
-    outlinks: &[u16],
-)
-    requires ready { Ready (residual tails.now heads.now lowers.now uppers.now costs.now x.old pot.now) (phase_most * total left.old) left.old lack.old }
-    requires chain { Chain tails.now lowers.now uppers.now (length left.old) outs.now outlinks.now }
-    ensures carried { Carried tails.now heads.now x.old left.old lack.old x.new left.new lack.new }
-    ensures eased { Eased (residual tails.now heads.now lowers.now uppers.now costs.now x.new pot.now) left.new lack.new left.old }
+pub fn send_direct(graph: Graph, x: &mut [u16], pot: &[u64], units: &mut Units<'_>)
+    requires ready { Ready (residual_on graph x.old pot.now) (phase_most * total units.old.left.now) units.old.left.now units.old.lack.now }
+    requires left_len { length units.old.left.now ≡ graph.nodes }
+    ensures carried { Carried (tails_of graph.entry.arcs.now) (heads_of graph.entry.arcs.now) x.old units.old.left.now units.old.lack.now x.new units.new.left.now units.new.lack.now }
+    ensures eased { Eased (residual_on graph.entry x.new pot.now) units.new.left.now units.new.lack.now units.old.left.now }
 {
-    let mut v = 0;
-    while v < left.len() {
-        send_from(
-            tails, heads, lowers, uppers, costs, x, pot, left, lack, outs, outlinks, v,
-        );
-        v += 1;
+    for v in 0..graph.nodes {
+        send_from(graph, x, pot, units, v);
     }
 }

@@ -1,4 +1,5 @@
 -- The laws of residual arcs, on lists, that the proofs of the functions cite.
+pub mod ArcLists
 pub mod Units
 pub mod Passes
 pub mod Chaining

@@ -1,5 +1,6 @@
 -- A search by a queue: a node that is reached goes behind the queue; an arc that leads to no new node never does later; when the queue is empty, no arc leads further.
 use mathlib.Core.Path.{◌≡◌, refl, sym, ap, ◌∙◌, subst}
+use Rattle.std.proofs.Common.{None, Some}
 use mathlib.Core.Logic.{⊎_elim}
 use mathlib.Core.List.{List}
 use Prim.Native.Nat.{ℕ, ◌+◌, ◌-◌, ◌≤◌, ◌<◌}
@@ -207,26 +208,26 @@ module _ {r : Residual} {from : ℕ} {start wanted : List ℕ} {next count : ℕ
   going_rooted = record { long = g.long; via_long = g.underway.via_long ∙ g.long; keeps = g.keeps; adds_none = g.adds_none; tree = g.underway.ranked.tree }
 
   -- a wanted node stands in the queue
-  pub going_found : length dist ≤ 255 → (v i : ℕ) → v ≡ get_or queue i 0 → i < count → 0 < get_or wanted v 0 → Sought r from start wanted dist via v
-  going_found few v i e l h =
+  pub going_found : (v i : ℕ) → v ≡ get_or queue i 0 → i < count → 0 < get_or wanted v 0 → Sought r from start wanted dist via (Some v)
+  going_found v i e l h =
       let n = going_node i l in
       record {
         rooted = going_rooted;
-        some = λ _. record { node = subst (λ (z : ℕ). z < length dist) (sym e) n.node; marked = subst (reached dist) (sym e) n.marked; some = h };
-        closed = λ big. absurd (omega (arith, n.node));
-        none = λ big. absurd (omega (arith, n.node));
+        some = record { node = subst (λ (z : ℕ). z < length dist) (sym e) n.node; marked = subst (reached dist) (sym e) n.marked; some = h };
+        closed = tt;
+        none = tt;
       }
 
   -- the queue is empty
-  pub going_over : Shaped r (length dist) → count ≤ next → Sought r from start wanted dist via 255
+  pub going_over : Shaped r (length dist) → count ≤ next → Sought r from start wanted dist via None
   going_over s h = record {
     rooted = going_rooted;
-    some = λ small. absurd (omega arith);
-    closed = λ _ a late arc. record {
+    some = tt;
+    closed = λ a late arc. record {
       up = λ t near room. let (i, l, e) = g.underway.lined.places (tail_of r a) (s.tails_in a arc) near in (g.done i (omega arith) a late arc).up (sym e) t room;
       down = λ t near room. let (i, l, e) = g.underway.lined.places (head_of r a) (s.heads_in a arc) near in (g.done i (omega arith) a late arc).down (sym e) t room;
     };
-    none = λ _ u node in'. let (i, l, e) = g.underway.lined.places u node in' in subst (λ (z : ℕ). get_or wanted z 0 ≡ 0) e (g.clear i (omega arith));
+    none = λ u node in'. let (i, l, e) = g.underway.lined.places u node in' in subst (λ (z : ℕ). get_or wanted z 0 ≡ 0) e (g.clear i (omega arith));
   }
 
   module _ {count' : ℕ} {dist' via' queue' : List ℕ} (f : Further r from count dist queue count' dist' via' queue') where
@@ -261,5 +262,5 @@ module _ {r : Residual} {from : ℕ} {start wanted : List ℕ} {next count : ℕ
         }
 
 -- a search that reaches no wanted node is whole
-pub searched_whole : {r : Residual} {from : ℕ} {start wanted dist via : List ℕ} {v : ℕ} → 255 ≤ v → Sought r from start wanted dist via v → Searched r from start dist via
-searched_whole h s = record { rooted = s.rooted; closed = s.closed h }
+pub searched_whole : {r : Residual} {from : ℕ} {start wanted dist via : List ℕ} → Sought r from start wanted dist via None → Searched r from start dist via
+searched_whole s = record { rooted = s.rooted; closed = s.closed }

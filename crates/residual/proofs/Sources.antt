@@ -1,5 +1,6 @@
 -- The nodes that have something left, as the sources of a search; and the one node that a search is for.
 use mathlib.Core.Path.{◌≡◌, refl, ap, ◌∙◌}
+use Rattle.std.proofs.Common.{None, Some}
 use mathlib.Core.Logic.{◌⊎◌, inl, inr}
 use mathlib.Core.List.{List, [], ◌∷◌}
 use Prim.Native.Nat.{ℕ, zero, suc, ◌≤◌, ◌<◌}
@@ -7,7 +8,7 @@ use native.Mathlib.Nat.{le_of_suc-le-suc, not-suc-le-zero}
 use native.Mathlib.Decide.{ℕ_discrete, dec_lt}
 use native.Mathlib.Omega.{arith}
 use borrow.Author.Tests.{le-leb}
-use lib.ListN.{length, get_or, set, length-set, get_or-eq_default}
+use lib.ListN.{length, get_or, set, length-set, get_or-eq_default, replicate, length-replicate, get_or-replicate}
 use lib.Seq.{get_or-set_same, get_or-set_other}
 use Rattle.finite.specs.Base.{total}
 use Rattle.residual.specs.Residual.{Residual, Fresh, reached, unreached}
@@ -77,6 +78,10 @@ single_fresh dist s l few one = record {
   few = few;
 }
 
+-- each node of a list that is filled with 255 is unreached
+pub all_unreached : {dist : List ℕ} (n : ℕ) → dist ≡ replicate n 255 → (v : ℕ) → v < length dist → get_or dist v 0 ≡ 255
+all_unreached n filled v l = rw filled (get_or-replicate {A = ℕ} n v 255 0 (omega (arith, ap (λ (d : List ℕ). length d) filled, length-replicate {A = ℕ} n 255)))
+
 -- among nodes that are not reached one is marked as the source, and alone in the queue
 unreached_all : (dist : List ℕ) → ((v : ℕ) → v < length dist → get_or dist v 0 ≡ 255) → unreached dist ≡ length dist
 unreached_all [] all = refl
@@ -110,12 +115,12 @@ wants_set {n} {xs} target z l = record {
 }
 
 -- a search for one node reaches it where it finds a node, and else does not
-module _ {r : Residual} {from : ℕ} {start wanted dist via : List ℕ} {v target : ℕ} (s : Sought r from start wanted dist via v) (w : Wants wanted target) where
-  pub wants_found : v < 255 → reached dist target
-  wants_found h = let f = s.some h in omega (arith, f.marked, ap (λ (u : ℕ). get_or dist u 0) (w.only v f.some))
+module _ {r : Residual} {from : ℕ} {start wanted dist via : List ℕ} {target : ℕ} (w : Wants wanted target) where
+  pub wants_found : {v : ℕ} → Sought r from start wanted dist via (Some v) → reached dist target
+  wants_found s = let f = s.some in omega (arith, f.marked, ap (λ (u : ℕ). get_or dist u 0) (w.only _ f.some))
 
-  pub wants_none : 255 ≤ v → target < length dist → 255 ≤ get_or dist target 0
-  wants_none h l = elim (dec_lt (get_or dist target 0) 255) [
-    | yes in_tree ↦ absurd (omega (arith, s.none h target l in_tree, w.here))
+  pub wants_none : Sought r from start wanted dist via None → target < length dist → 255 ≤ get_or dist target 0
+  wants_none s l = elim (dec_lt (get_or dist target 0) 255) [
+    | yes in_tree ↦ absurd (omega (arith, s.none target l in_tree, w.here))
     | no d ↦ omega (arith, d)
   ]

@@ -1,12 +1,13 @@
 -- A step along one arc: what the tests on it tell of the search and of the gap.
 use mathlib.Core.Path.{◌≡◌, refl, sym, ap, subst}
+use Rattle.std.proofs.Common.{None, Some}
 use mathlib.Core.Logic.{◌⊎◌, inl, inr, ⊎_elim}
 use mathlib.Core.Bool.{Bool, true, false}
 use mathlib.Core.List.{List}
 use Prim.Native.Nat.{ℕ, ◌≤◌, ◌<◌}
 use native.Mathlib.Omega.{arith}
 use lib.ListN.{length, get_or}
-use Rattle.residual.specs.Residual.{Residual, Tells, Shaped, near_ends, far_end, Room, Even, OpenAt, Open, tight, reached}
+use Rattle.residual.specs.Residual.{Residual, Tells, Shaped, near_ends, far_end, Room, Even, OpenAt, tight, reached}
 use Rattle.residual.specs.Searches.{Spent, Reach, Standing}
 use Rattle.residual.specs.Prices.{short, Fits, Sums, Slack}
 
@@ -21,17 +22,6 @@ untold fact b t e = subst (λ (b : Bool). Tells b fact) e t
 pub near_long : {r : Residual} {nodes : ℕ} (on : Bool) → Shaped r nodes → length (near_ends on r) ≡ length r.tails
 near_long true s = refl
 near_long false s = s.heads_long
-
--- where a step along arc a leads, by the tests on it
-module _ {r : Residual} {dist : List ℕ} {on : Bool} {a v : ℕ} (e : v ≡ far_end on r.tails r.heads a) where
-  pub open_old : reached dist v → Open r dist on a 255
-  open_old h = record { none = λ _ room. subst (reached dist) e h; some = λ l. absurd (omega arith) }
-
-  pub open_full : (Room on r a → ⊥) → Open r dist on a 255
-  open_full n = record { none = λ _ room. absurd (n room); some = λ l. absurd (omega arith) }
-
-  pub open_new : v < length dist → length dist ≤ 255 → 255 ≤ get_or dist v 0 → Room on r a → Open r dist on a v
-  open_new node few new room = record { none = λ big. absurd (omega arith); some = λ _. record { at = e; node = node; new = new; room = room } }
 
 -- u is reached, and the step begins there
 module _ (r : Residual) (dist : List ℕ) (u a : ℕ) where
@@ -48,25 +38,24 @@ module _ (r : Residual) (dist : List ℕ) (u a : ℕ) where
   of_even true v e q t = omega (arith, t, ap (λ (w : ℕ). get_or r.pot w 0) e, ap (λ (w : ℕ). get_or r.pot w 0) q)
   of_even false v e q t = omega (arith, t, ap (λ (w : ℕ). get_or r.pot w 0) e, ap (λ (w : ℕ). get_or r.pot w 0) q)
 
-  module _ (on : Bool) (e : get_or (near_ends on r) a 0 ≡ u) (s : Standing dist u) (v : ℕ) (o : Open r dist on a v) where
+  module _ (on : Bool) (e : get_or (near_ends on r) a 0 ≡ u) (s : Standing dist u) where
     -- it leads to no new node
-    pub reach_shut : 255 ≤ v → Reach r dist u a 255
-    reach_shut big = record { none = λ _. spent_near on e s.marked (λ t room. o.none big room); some = λ l. absurd (omega arith) }
+    pub reach_shut : (Room on r a → reached dist (far_end on r.tails r.heads a)) → Reach r dist u a None
+    reach_shut shut = spent_near on e s.marked (λ t room. shut room)
 
-    -- the arc is not tight
-    pub reach_loose : v < 255 → (Even on (get_or r.costs a 0) (get_or r.pot u 0) (get_or r.pot v 0) → ⊥) → Reach r dist u a 255
-    reach_loose small n = record { none = λ _. spent_near on e s.marked (λ t room. absurd (n (to_even on v e (o.some small).at t))); some = λ l. absurd (omega arith) }
+    module _ (v : ℕ) (o : OpenAt r dist on a v) where
+      -- the arc is not tight
+      pub reach_loose : (Even on (get_or r.costs a 0) (get_or r.pot u 0) (get_or r.pot v 0) → ⊥) → Reach r dist u a None
+      reach_loose n = spent_near on e s.marked (λ t room. absurd (n (to_even on v e o.at t)))
 
-    -- it leads to a new node
-    pub reach_new : v < 255 → Even on (get_or r.costs a 0) (get_or r.pot u 0) (get_or r.pot v 0) → Reach r dist u a v
-    reach_new small even =
-        let k = o.some small in
-        record { none = λ big. absurd (omega arith); some = λ _. record { node = k.node; new = k.new; even = of_even on v e k.at even; way = way on e k } }
-      where
-        way : (on : Bool) → get_or (near_ends on r) a 0 ≡ u → OpenAt r dist on a v
-            → ((get_or r.heads a 0 ≡ v) × (get_or r.x a 0 < get_or r.uppers a 0) × reached dist (get_or r.tails a 0)) ⊎ ((get_or r.tails a 0 ≡ v) × (get_or r.lowers a 0 < get_or r.x a 0) × reached dist (get_or r.heads a 0))
-        way true e k = inl (sym k.at, k.room, subst (reached dist) (sym e) s.marked)
-        way false e k = inr (sym k.at, k.room, subst (reached dist) (sym e) s.marked)
+      -- it leads to a new node
+      pub reach_new : Even on (get_or r.costs a 0) (get_or r.pot u 0) (get_or r.pot v 0) → Reach r dist u a (Some v)
+      reach_new even = record { node = o.node; new = o.new; even = of_even on v e o.at even; way = way on e o }
+        where
+          way : (on : Bool) → get_or (near_ends on r) a 0 ≡ u → OpenAt r dist on a v
+              → ((get_or r.heads a 0 ≡ v) × (get_or r.x a 0 < get_or r.uppers a 0) × reached dist (get_or r.tails a 0)) ⊎ ((get_or r.tails a 0 ≡ v) × (get_or r.lowers a 0 < get_or r.x a 0) × reached dist (get_or r.heads a 0))
+          way true e k = inl (sym k.at, k.room, subst (reached dist) (sym e) s.marked)
+          way false e k = inr (sym k.at, k.room, subst (reached dist) (sym e) s.marked)
 
   -- how short of tight the arc is
   pub fits : (on : Bool) (v : ℕ) → get_or (near_ends on r) a 0 ≡ u → v ≡ far_end on r.tails r.heads a → a < length r.tails → Sums r → Fits on (get_or r.costs a 0) (get_or r.pot u 0) (get_or r.pot v 0)

@@ -29,10 +29,3 @@ pub record Lined (dist : List ℕ) (count : ℕ) (queue : List ℕ) : Type 0 whe
   pub count_is : count + unreached dist ≡ length dist
   pub nodes : (i : ℕ) → i < count → (get_or queue i 0 < length dist) × reached dist (get_or queue i 0)
   pub places : (v : ℕ) → v < length dist → reached dist v → (i : ℕ) × (i < count) × (get_or queue i 0 ≡ v)
-
--- space to search in, by node: marks, arcs and a queue; with the arcs at each node
-pub record Workspace (tails heads lowers uppers : List ℕ) (nodes : ℕ) (dist via queue outs outlinks ins inlinks : List ℕ) : Type 0 where
-  pub dist_long : length dist ≡ nodes
-  pub via_long : length via ≡ nodes
-  pub queue_long : length queue ≡ nodes
-  pub chains : Chains tails heads lowers uppers nodes outs outlinks ins inlinks

@@ -1,5 +1,5 @@
 -- Potentials that price the residual arcs; the gap to the next tight arc that leaves the reached nodes; the raise by that gap.
-use Rattle.std.specs.Prelude.{◌≡◌, ◌⊎◌, Bool, true, false, List, ℕ, ◌+◌, ◌-◌, ◌^◌, ◌≤◌, ◌<◌, leb, length, get_or}
+use Rattle.std.specs.Prelude.{◌≡◌, ◌⊎◌, Option, IfSome, Bool, true, false, List, ℕ, ◌+◌, ◌-◌, ◌^◌, ◌≤◌, ◌<◌, leb, length, get_or}
 use Rattle.finite.specs.Base.{when}
 use Rattle.residual.specs.Residual.{Residual, tail_of, head_of, near_ends, can_up, can_down, UpBy, DownBy}
 
@@ -35,6 +35,10 @@ short false cost near far = near - (cost + far)
 pub record Slack (r : Residual) (dist : List ℕ) (a s : ℕ) : Type 0 where
   pub leaves : 0 < s → Leaves r dist a s
   pub only : (t : ℕ) → Leaves r dist a t → s ≡ t
+
+-- a number above 0, if any
+abbrev pub Positive : Option ℕ → Type 0
+Positive n = IfSome n (λ k. 0 < k)
 
 -- the lesser of two numbers, where 0 is none
 pub record Lesser (m n r : ℕ) : Type 0 where

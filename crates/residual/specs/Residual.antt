@@ -1,5 +1,5 @@
 -- The residual arcs of a flow under potentials; what a search over them finds, and what a push along its tree changes.
-use Rattle.std.specs.Prelude.{◌≡◌, ◌⊎◌, Bool, true, false, List, [], ◌∷◌, ℕ, ◌+◌, ◌-◌, ◌≤◌, ◌<◌, eqb, leb, length, get_or, set}
+use Rattle.std.specs.Prelude.{◌≡◌, ◌⊎◌, Option, None, Some, Bool, true, false, List, [], ◌∷◌, ℕ, ◌+◌, ◌-◌, ◌≤◌, ◌<◌, eqb, leb, length, get_or, set}
 use Rattle.finite.specs.Base.{when}
 
 -- the units on the arcs whose end here is v
@@ -97,10 +97,10 @@ pub record OpenAt (r : Residual) (dist : List ℕ) (on : Bool) (a v : ℕ) : Typ
   pub new : 255 ≤ get_or dist v 0
   pub room : Room on r a
 
--- where a step along arc a leads if that is new and there is room: v, or from 255 on no node
-pub record Open (r : Residual) (dist : List ℕ) (on : Bool) (a v : ℕ) : Type 0 where
-  pub none : 255 ≤ v → Room on r a → reached dist (far_end on r.tails r.heads a)
-  pub some : v < 255 → OpenAt r dist on a v
+-- where a step along arc a leads if that is new and there is room, or none
+abbrev pub Open : Residual → List ℕ → Bool → ℕ → Option ℕ → Type 0
+Open r dist on a None = Room on r a → reached dist (far_end on r.tails r.heads a)
+Open r dist on a (Some v) = OpenAt r dist on a v
 
 -- a step from a reached node to one that is not, over what is left between two bounds
 pub record Ahead (near far low high : ℕ) : Type 0 where

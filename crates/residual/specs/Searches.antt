@@ -1,5 +1,5 @@
 -- A search by a queue: the reached nodes stand in it in the order of their marks, and each is taken from it in turn, until a wanted node is reached.
-use Rattle.std.specs.Prelude.{◌≡◌, List, ℕ, ◌≤◌, ◌<◌, length, get_or}
+use Rattle.std.specs.Prelude.{◌≡◌, Option, None, Some, IfSome, IfNone, List, ℕ, ◌≤◌, ◌<◌, length, get_or}
 use Rattle.residual.specs.Residual.{Residual, Opens, Ranked, Rooted, ShutAt, Pushed, tail_of, head_of, tight, can_up, can_down, reached}
 use Rattle.residual.specs.Chains.{Lined}
 
@@ -8,10 +8,10 @@ pub record Spent (r : Residual) (dist : List ℕ) (u a : ℕ) : Type 0 where
   pub up : tail_of r a ≡ u → tight r a → can_up r a → reached dist (head_of r a)
   pub down : head_of r a ≡ u → tight r a → can_down r a → reached dist (tail_of r a)
 
--- what a step from u along arc a reaches: a new node v, or from 255 on none
-pub record Reach (r : Residual) (dist : List ℕ) (u a v : ℕ) : Type 0 where
-  pub none : 255 ≤ v → Spent r dist u a
-  pub some : v < 255 → Opens r dist a v
+-- what a step from u along arc a reaches: a new node, or none
+abbrev pub Reach : Residual → List ℕ → ℕ → ℕ → Option ℕ → Type 0
+Reach r dist u a None = Spent r dist u a
+Reach r dist u a (Some v) = Opens r dist a v
 
 -- so for each arc from `from` on whose end in `ends` is u; so for every arc from `from` on
 abbrev pub SpentAt : Residual → ℕ → List ℕ → List ℕ → ℕ → Type 0
@@ -51,16 +51,16 @@ pub record Lacks (dist wanted : List ℕ) (v : ℕ) : Type 0 where
   pub marked : reached dist v
   pub some : 0 < get_or wanted v 0
 
--- a tree from the sources with a wanted node v, or from 255 on a whole search that reaches none
-pub record Sought (r : Residual) (from : ℕ) (start wanted dist via : List ℕ) (v : ℕ) : Type 0 where
+-- a tree from the sources with a wanted node, or a whole search that reaches none
+pub record Sought (r : Residual) (from : ℕ) (start wanted dist via : List ℕ) (found : Option ℕ) : Type 0 where
   pub rooted : Rooted r from start dist via
-  pub some : v < 255 → Lacks dist wanted v
-  pub closed : 255 ≤ v → (a : ℕ) → from ≤ a → a < length r.tails → ShutAt r dist a
-  pub none : 255 ≤ v → (u : ℕ) → u < length dist → reached dist u → get_or wanted u 0 ≡ 0
+  pub some : IfSome found (λ v. Lacks dist wanted v)
+  pub closed : IfNone found ((a : ℕ) → from ≤ a → a < length r.tails → ShutAt r dist a)
+  pub none : IfNone found ((u : ℕ) → u < length dist → reached dist u → get_or wanted u 0 ≡ 0)
 
--- a search from the sources for the target, and a push to it if it was reached
-pub record Augmented (r : Residual) (from : ℕ) (start : List ℕ) (target : ℕ) (x' dist via : List ℕ) (source : ℕ) : Type 0 where
+-- a search from the sources for the target, and a push to it from a source if it was reached
+pub record Augmented (r : Residual) (from : ℕ) (start : List ℕ) (target : ℕ) (x' dist via : List ℕ) (source : Option ℕ) : Type 0 where
   pub rooted : Rooted r from start dist via
-  pub pushed : source < 255 → Pushed r from dist target x' source
-  pub closed : 255 ≤ source → (a : ℕ) → from ≤ a → a < length r.tails → ShutAt r dist a
-  pub stuck : 255 ≤ source → (x' ≡ r.x) × (255 ≤ get_or dist target 0)
+  pub pushed : IfSome source (λ s. Pushed r from dist target x' s)
+  pub closed : IfNone source ((a : ℕ) → from ≤ a → a < length r.tails → ShutAt r dist a)
+  pub stuck : IfNone source ((x' ≡ r.x) × (255 ≤ get_or dist target 0))

@@ -3,6 +3,7 @@
 
 pub mod arcs;
 pub mod chains;
+pub mod graph;
 pub mod marks;
 pub mod prices;
 pub mod push;

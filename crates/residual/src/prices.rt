@@ -1,21 +1,14 @@
 //! The gap to the next tight arc, and the raise of the potentials by it.
-ghost use Rattle.std.specs.Prelude.{◌≡◌, ℕ, ◌+◌, ◌-◌, ◌^◌, ◌<◌, ◌≤◌, length, get_or};
-ghost use Rattle.residual.specs.Residual.{residual, near_ends, Shaped};
-ghost use Rattle.residual.specs.Chains.{Chain, Chains};
+ghost use Rattle.std.specs.Prelude.{◌≡◌, ℕ, ◌+◌, ◌^◌, ◌<◌, ◌≤◌, length, get_or, unwrap_or};
+ghost use Rattle.residual.specs.Residual.{near_ends};
+ghost use Rattle.residual.specs.Chains.{Chain};
+ghost use Rattle.residual.specs.Graphs.{lists_of};
 ghost use Rattle.residual.specs.Searches.{Standing};
-ghost use Rattle.residual.specs.Prices.{Fits, short, Sums, Slack, Lesser, LeavesBy, LeavesFrom, Closest, Gap, Raised};
+ghost use Rattle.residual.specs.Prices.{Fits, short, Sums, Slack, Positive, Lesser, LeavesBy, LeavesFrom, Closest, Gap, Raised};
 
-use crate::arcs::{NO_NODE, UNREACHED, open_end};
-
-// What is left of m without n, if anything.
-pub fn minus(m: u64, n: u64) -> u64
-    ensures { result ≡ m - n }
-{
-    if m < n {
-        return 0;
-    }
-    m - n
-}
+use crate::arcs::{UNREACHED, open_end};
+use crate::graph::{Links, ResidualGraph};
+use crate::search::Space;
 
 // How short of nothing the cost of a step on, or back, is between the potentials of the nodes near and far.
 fn short_by(on: bool, cost: u64, near: u64, far: u64) -> u64
@@ -23,167 +16,107 @@ fn short_by(on: bool, cost: u64, near: u64, far: u64) -> u64
     ensures { result ≡ short on cost near far }
 {
     if on {
-        return minus(cost + near, far);
+        return (cost + near).saturating_sub(far);
     }
-    minus(near, cost + far)
+    near.saturating_sub(cost + far)
 }
 
-// How short of tight arc a is if it leaves the reached nodes, else 0; u is reached, and a step on, or back, along a begins there.
-fn slack_at(
-    tails: &[u8],
-    heads: &[u8],
-    lowers: &[u16],
-    uppers: &[u16],
-    costs: &[u64],
-    x: &[u16],
-    pot: &[u64],
-    dist: &[u8],
-    on: bool,
-    u: usize,
-    a: usize,
-) -> u64
-    requires shaped { Shaped (residual tails.now heads.now lowers.now uppers.now costs.now x.now pot.now) (length dist.now) }
-    requires sums { Sums (residual tails.now heads.now lowers.now uppers.now costs.now x.now pot.now) }
-    requires a_in_bounds { a < length tails.now }
-    requires a_value { get_or (near_ends on (residual tails.now heads.now lowers.now uppers.now costs.now x.now pot.now)) a 0 ≡ u }
+// How short of tight arc a is if it leaves the reached nodes and is not tight; u is reached, and a step on, or back, along a begins there.
+fn slack_at(r: ResidualGraph, dist: &[u8], on: bool, u: usize, a: usize) -> Option<u64>
+    requires dist_len { length dist.now ≡ r.graph.nodes }
+    requires sums { Sums (lists_of r) }
+    requires a_in_bounds { a < length r.graph.arcs.now }
+    requires a_value { get_or (near_ends on (lists_of r)) a 0 ≡ u }
     requires standing { Standing dist.now u }
-    ensures { Slack (residual tails.now heads.now lowers.now uppers.now costs.now x.now pot.now) dist.now a result }
+    ensures slack { Slack (lists_of r.entry) dist.now a (unwrap_or result 0) }
+    ensures positive { Positive result }
 {
-    let v = open_end(tails, heads, lowers, uppers, costs, x, pot, dist, on, a);
-    if v >= NO_NODE {
-        return 0;
-    }
-    short_by(on, costs[a], pot[u], pot[v])
+    let v = open_end(r, dist, on, a)?;
+    let short = short_by(on, r.graph.arcs[a].cost, r.pot[u], r.pot[v]);
+    if short > 0 { Some(short) } else { None }
 }
 
-// The lesser of two numbers, where 0 is none.
-fn lesser(m: u64, n: u64) -> u64
-    ensures { Lesser m n result }
+// The lesser of two numbers, if there is any.
+fn lesser(m: Option<u64>, n: Option<u64>) -> Option<u64>
+    requires m_positive { Positive m }
+    requires n_positive { Positive n }
+    ensures lesser { Lesser (unwrap_or m 0) (unwrap_or n 0) (unwrap_or result 0) }
+    ensures positive { Positive result }
 {
-    if n == 0 {
-        return m;
+    match (m, n) {
+        (Some(a), Some(b)) => Some(a.min(b)),
+        (None, _) => n,
+        (_, None) => m,
     }
-    if m == 0 {
-        return n;
-    }
-    if m < n {
-        return m;
-    }
-    n
 }
 
-// The lesser of `most` and of what the arcs that steps on, or back, from u lead along are short of tight where they leave the reached nodes; 0 is none.
+// The lesser of `most` and of what the arcs that steps on, or back, from u lead along are short of tight where they leave the reached nodes.
 fn gap_by(
-    tails: &[u8],
-    heads: &[u8],
-    lowers: &[u16],
-    uppers: &[u16],
-    costs: &[u64],
-    x: &[u16],
-    pot: &[u64],
+    r: ResidualGraph,
     dist: &[u8],
     on: bool,
-    last: &[u16],
-    before: &[u16],
+    links: Links,
     u: usize,
-    most: u64,
-) -> u64
-    requires shaped { Shaped (residual tails.now heads.now lowers.now uppers.now costs.now x.now pot.now) (length dist.now) }
-    requires sums { Sums (residual tails.now heads.now lowers.now uppers.now costs.now x.now pot.now) }
-    requires chain { Chain (near_ends on (residual tails.now heads.now lowers.now uppers.now costs.now x.now pot.now)) lowers.now uppers.now (length dist.now) last.now before.now }
+    most: Option<u64>,
+) -> Option<u64>
+    requires dist_len { length dist.now ≡ r.graph.nodes }
+    requires sums { Sums (lists_of r) }
+    requires chain { Chain (near_ends on (lists_of r)) (lists_of r).lowers (lists_of r).uppers (length dist.now) links.last.now links.before.now }
     requires standing { Standing dist.now u }
-    ensures { Closest (residual tails.now heads.now lowers.now uppers.now costs.now x.now pot.now) dist.now (LeavesBy (residual tails.now heads.now lowers.now uppers.now costs.now x.now pot.now) dist.now on u) most result }
+    requires most_positive { Positive most }
+    ensures closest { Closest (lists_of r.entry) dist.now (LeavesBy (lists_of r.entry) dist.now on u) (unwrap_or most 0) (unwrap_or result 0) }
+    ensures positive { Positive result }
 {
     let mut best = most;
-    let mut at = last[u] as usize;
+    let mut at = usize::from(links.last[u]);
+    // A while: each arc names the next one.
     while at > 0 {
         let a = at - 1;
-        best = lesser(
-            best,
-            slack_at(tails, heads, lowers, uppers, costs, x, pot, dist, on, u, a),
-        );
-        at = before[a] as usize;
+        best = lesser(best, slack_at(r, dist, on, u, a));
+        at = usize::from(links.before[a]);
     }
     best
 }
 
 // The same for steps on and back, if u is reached.
-fn gap_at(
-    tails: &[u8],
-    heads: &[u8],
-    lowers: &[u16],
-    uppers: &[u16],
-    costs: &[u64],
-    x: &[u16],
-    pot: &[u64],
-    dist: &[u8],
-    outs: &[u16],
-    outlinks: &[u16],
-    ins: &[u16],
-    inlinks: &[u16],
-    u: usize,
-    most: u64,
-) -> u64
-    requires shaped { Shaped (residual tails.now heads.now lowers.now uppers.now costs.now x.now pot.now) (length dist.now) }
-    requires sums { Sums (residual tails.now heads.now lowers.now uppers.now costs.now x.now pot.now) }
-    requires chains { Chains tails.now heads.now lowers.now uppers.now (length dist.now) outs.now outlinks.now ins.now inlinks.now }
+fn gap_at(r: ResidualGraph, dist: &[u8], u: usize, most: Option<u64>) -> Option<u64>
+    requires dist_len { length dist.now ≡ r.graph.nodes }
+    requires sums { Sums (lists_of r) }
     requires u_in_bounds { u < length dist.now }
-    ensures { Closest (residual tails.now heads.now lowers.now uppers.now costs.now x.now pot.now) dist.now (LeavesFrom (residual tails.now heads.now lowers.now uppers.now costs.now x.now pot.now) dist.now u) most result }
+    requires most_positive { Positive most }
+    ensures closest { Closest (lists_of r.entry) dist.now (LeavesFrom (lists_of r.entry) dist.now u) (unwrap_or most 0) (unwrap_or result 0) }
+    ensures positive { Positive result }
 {
     if dist[u] == UNREACHED {
         return most;
     }
-    let on = gap_by(
-        tails, heads, lowers, uppers, costs, x, pot, dist, true, outs, outlinks, u, most,
-    );
-    gap_by(
-        tails, heads, lowers, uppers, costs, x, pot, dist, false, ins, inlinks, u, on,
-    )
+    let on = gap_by(r, dist, true, r.graph.outs, u, most);
+    gap_by(r, dist, false, r.graph.ins, u, on)
 }
 
-// The least by which a residual arc that leaves the reached nodes is short of tight, or 0 if none is.
-pub fn gap(
-    tails: &[u8],
-    heads: &[u8],
-    lowers: &[u16],
-    uppers: &[u16],
-    costs: &[u64],
-    x: &[u16],
-    pot: &[u64],
-    dist: &[u8],
-    outs: &[u16],
-    outlinks: &[u16],
-    ins: &[u16],
-    inlinks: &[u16],
-) -> u64
-    requires shaped { Shaped (residual tails.now heads.now lowers.now uppers.now costs.now x.now pot.now) (length dist.now) }
-    requires sums { Sums (residual tails.now heads.now lowers.now uppers.now costs.now x.now pot.now) }
-    requires chains { Chains tails.now heads.now lowers.now uppers.now (length dist.now) outs.now outlinks.now ins.now inlinks.now }
-    ensures { Gap (residual tails.now heads.now lowers.now uppers.now costs.now x.now pot.now) dist.now result }
+// The least by which a residual arc that leaves the reached nodes is short of tight, if one is.
+pub fn gap(r: ResidualGraph, space: &Space<'_>) -> Option<u64>
+    requires dist_len { length space.now.dist.now ≡ r.graph.nodes }
+    requires sums { Sums (lists_of r) }
+    ensures gap { Gap (lists_of r.entry) space.now.dist.now (unwrap_or result 0) }
+    ensures positive { Positive result }
 {
-    let mut best: u64 = 0;
-    let mut u = 0;
-    while u < dist.len() {
-        best = gap_at(
-            tails, heads, lowers, uppers, costs, x, pot, dist, outs, outlinks, ins, inlinks, u,
-            best,
-        );
-        u += 1;
+    let mut best = None;
+    for u in 0..r.graph.nodes {
+        best = gap_at(r, space.dist, u, best);
     }
     best
 }
 
 // Raises the potential of every node that is not reached.
-pub fn raise(pot: &mut [u64], dist: &[u8], by: u64)
-    requires pot_len { length pot.old ≡ length dist.now }
-    requires by_index { (v : ℕ) → 255 ≤ get_or dist.now v 0 → get_or pot.old v 0 + by < 2 ^ 64 }
-    ensures { Raised dist.now by pot.old pot.new }
+pub fn raise(pot: &mut [u64], space: &Space<'_>, by: u64)
+    requires pot_len { length pot.old ≡ length space.now.dist.now }
+    requires by_index { (v : ℕ) → 255 ≤ get_or space.now.dist.now v 0 → get_or pot.old v 0 + by < 2 ^ 64 }
+    ensures { Raised space.now.dist.now by pot.old pot.new }
 {
-    let mut v = 0;
-    while v < dist.len() {
-        if dist[v] == UNREACHED {
-            pot[v] += by;
+    for (v, price) in pot.iter_mut().enumerate() {
+        if space.dist[v] == UNREACHED {
+            *price += by;
         }
-        v += 1;
     }
 }

@@ -1,182 +1,135 @@
 //! The search from the sources along tight residual arcs, by a queue of the nodes reached.
 ghost use Rattle.std.specs.Prelude.{◌≡◌, ◌<◌, ◌-◌, length, get_or};
-ghost use Rattle.residual.specs.Residual.{residual, near_ends, Shaped, Fresh};
-ghost use Rattle.residual.specs.Chains.{Chain, Chains, Lined, Workspace};
+ghost use Rattle.residual.specs.Residual.{near_ends, Fresh};
+ghost use Rattle.residual.specs.Chains.{Chain, Lined};
+ghost use Rattle.residual.specs.Graphs.{lists_of, Workspace};
 ghost use Rattle.residual.specs.Searches.{Reach, Standing, Underway, Further, SpentAt, Done, Sought};
 
-use crate::arcs::{NO_NODE, is_even, open_end};
+use crate::arcs::{is_even, open_end};
+use crate::graph::{Links, ResidualGraph};
 
-// The node that a step on, or back, from u along arc a reaches anew, or NO_NODE.
-fn reached_by(
-    tails: &[u8],
-    heads: &[u8],
-    lowers: &[u16],
-    uppers: &[u16],
-    costs: &[u64],
-    x: &[u16],
-    pot: &[u64],
-    dist: &[u8],
-    on: bool,
-    u: usize,
-    a: usize,
-) -> usize
-    requires shaped { Shaped (residual tails.now heads.now lowers.now uppers.now costs.now x.now pot.now) (length dist.now) }
-    requires a_in_bounds { a < length tails.now }
-    requires a_value { get_or (near_ends on (residual tails.now heads.now lowers.now uppers.now costs.now x.now pot.now)) a 0 ≡ u }
-    requires standing { Standing dist.now u }
-    ensures { Reach (residual tails.now heads.now lowers.now uppers.now costs.now x.now pot.now) dist.now u a result }
+// Space to search in, by node: its mark, the arc that leads to it, and a queue.
+#[derive(Drop)]
+pub struct Space<'a> {
+    pub dist: &'a mut [u8],
+    pub via: &'a mut [u16],
+    pub queue: &'a mut [u8],
+}
+
+// The node that a step on, or back, from u along arc a reaches anew.
+fn reached_by(r: ResidualGraph, space: &Space<'_>, on: bool, u: usize, a: usize) -> Option<usize>
+    requires dist_len { length space.now.dist.now ≡ r.graph.nodes }
+    requires a_in_bounds { a < length r.graph.arcs.now }
+    requires a_value { get_or (near_ends on (lists_of r)) a 0 ≡ u }
+    requires standing { Standing space.now.dist.now u }
+    ensures { Reach (lists_of r.entry) space.now.dist.now u a result }
 {
-    let v = open_end(tails, heads, lowers, uppers, costs, x, pot, dist, on, a);
-    if v >= NO_NODE {
-        return NO_NODE;
+    let v = open_end(r, space.dist, on, a)?;
+    if !is_even(on, r.graph.arcs[a].cost, r.pot[u], r.pot[v]) {
+        return None;
     }
-    if !is_even(on, costs[a], pot[u], pot[v]) {
-        return NO_NODE;
-    }
-    v
+    Some(v)
 }
 
 // The node in place i of the queue.
-fn node_at(queue: &[u8], i: usize) -> usize
-    requires { i < length queue.now }
-    ensures { result ≡ get_or queue.now i 0 }
+fn node_at(space: &Space<'_>, i: usize) -> usize
+    requires { i < length space.now.queue.now }
+    ensures { result ≡ get_or space.now.queue.now i 0 }
 {
-    queue[i] as usize
+    usize::from(space.queue[i])
 }
 
 // Marks each new node that a step on, or back, from u along an arc from `from` on leads to, notes the arc and puts the node into the queue, until one is wanted; how many nodes then stand there.
 fn fan(
-    tails: &[u8],
-    heads: &[u8],
-    lowers: &[u16],
-    uppers: &[u16],
-    costs: &[u64],
-    x: &[u16],
-    pot: &[u64],
+    r: ResidualGraph,
     from: usize,
-    dist: &mut [u8],
-    via: &mut [u16],
-    queue: &mut [u8],
+    space: &mut Space<'_>,
     wanted: &[u16],
     on: bool,
-    last: &[u16],
-    before: &[u16],
+    links: Links,
     u: usize,
     count: usize,
 ) -> usize
-    requires shaped { Shaped (residual tails.now heads.now lowers.now uppers.now costs.now x.now pot.now) (length dist.old) }
-    requires wanted_len { length wanted.now ≡ length dist.old }
-    requires chain { Chain (near_ends on (residual tails.now heads.now lowers.now uppers.now costs.now x.now pot.now)) lowers.now uppers.now (length dist.old) last.now before.now }
-    requires standing { Standing dist.old u }
-    requires underway { Underway (residual tails.now heads.now lowers.now uppers.now costs.now x.now pot.now) from count dist.old via.old queue.old }
-    ensures further { Further (residual tails.now heads.now lowers.now uppers.now costs.now x.now pot.now) from count dist.old queue.old result dist.new via.new queue.new }
-    ensures spent_at { get_or wanted.now (get_or queue.new (result - 1) 0) 0 ≡ 0 → SpentAt (residual tails.now heads.now lowers.now uppers.now costs.now x.now pot.now) from (near_ends on (residual tails.now heads.now lowers.now uppers.now costs.now x.now pot.now)) dist.new u }
+    requires dist_len { length space.old.dist.now ≡ r.graph.nodes }
+    requires wanted_len { length wanted.now ≡ r.graph.nodes }
+    requires chain { Chain (near_ends on (lists_of r)) (lists_of r).lowers (lists_of r).uppers (length space.old.dist.now) links.last.now links.before.now }
+    requires standing { Standing space.old.dist.now u }
+    requires underway { Underway (lists_of r) from count space.old.dist.now space.old.via.now space.old.queue.now }
+    ensures further { Further (lists_of r.entry) from count space.old.dist.now space.old.queue.now result space.new.dist.now space.new.via.now space.new.queue.now }
+    ensures spent_at { get_or wanted.now (get_or space.new.queue.now (result - 1) 0) 0 ≡ 0 → SpentAt (lists_of r.entry) from (near_ends on (lists_of r.entry)) space.new.dist.now u }
 {
     let mut next = count;
-    let mut at = last[u] as usize;
+    let mut at = usize::from(links.last[u]);
+    // A while: each arc names the next one.
     while at > from {
         let a = at - 1;
-        let v = reached_by(tails, heads, lowers, uppers, costs, x, pot, dist, on, u, a);
-        if v < NO_NODE {
-            dist[v] = next as u8;
-            via[v] = a as u16;
-            queue[next] = v as u8;
+        if let Some(v) = reached_by(r, space, on, u, a) {
+            space.dist[v] = next as u8;
+            space.via[v] = a as u16;
+            space.queue[next] = v as u8;
             next += 1;
             if wanted[v] > 0 {
                 return next;
             }
         }
-        at = before[a] as usize;
+        at = usize::from(links.before[a]);
     }
     next
 }
 
 // Marks each new node that an arc from `from` on leads to from u, until one is wanted; how many nodes then stand in the queue.
 fn visit(
-    tails: &[u8],
-    heads: &[u8],
-    lowers: &[u16],
-    uppers: &[u16],
-    costs: &[u64],
-    x: &[u16],
-    pot: &[u64],
+    r: ResidualGraph,
     from: usize,
-    dist: &mut [u8],
-    via: &mut [u16],
-    queue: &mut [u8],
+    space: &mut Space<'_>,
     wanted: &[u16],
-    outs: &[u16],
-    outlinks: &[u16],
-    ins: &[u16],
-    inlinks: &[u16],
     u: usize,
     count: usize,
 ) -> usize
-    requires shaped { Shaped (residual tails.now heads.now lowers.now uppers.now costs.now x.now pot.now) (length dist.old) }
-    requires wanted_len { length wanted.now ≡ length dist.old }
-    requires chains { Chains tails.now heads.now lowers.now uppers.now (length dist.old) outs.now outlinks.now ins.now inlinks.now }
-    requires standing { Standing dist.old u }
-    requires underway { Underway (residual tails.now heads.now lowers.now uppers.now costs.now x.now pot.now) from count dist.old via.old queue.old }
-    ensures further { Further (residual tails.now heads.now lowers.now uppers.now costs.now x.now pot.now) from count dist.old queue.old result dist.new via.new queue.new }
-    ensures done { get_or wanted.now (get_or queue.new (result - 1) 0) 0 ≡ 0 → Done (residual tails.now heads.now lowers.now uppers.now costs.now x.now pot.now) from dist.new u }
+    requires dist_len { length space.old.dist.now ≡ r.graph.nodes }
+    requires wanted_len { length wanted.now ≡ r.graph.nodes }
+    requires standing { Standing space.old.dist.now u }
+    requires underway { Underway (lists_of r) from count space.old.dist.now space.old.via.now space.old.queue.now }
+    ensures further { Further (lists_of r.entry) from count space.old.dist.now space.old.queue.now result space.new.dist.now space.new.via.now space.new.queue.now }
+    ensures done { get_or wanted.now (get_or space.new.queue.now (result - 1) 0) 0 ≡ 0 → Done (lists_of r.entry) from space.new.dist.now u }
 {
-    let next = fan(
-        tails, heads, lowers, uppers, costs, x, pot, from, dist, via, queue, wanted, true, outs,
-        outlinks, u, count,
-    );
-    let newest = node_at(queue, next - 1);
+    let next = fan(r, from, space, wanted, true, r.graph.outs, u, count);
+    let newest = node_at(space, next - 1);
     if wanted[newest] > 0 {
         return next;
     }
-    fan(
-        tails, heads, lowers, uppers, costs, x, pot, from, dist, via, queue, wanted, false, ins,
-        inlinks, u, next,
-    )
+    fan(r, from, space, wanted, false, r.graph.ins, u, next)
 }
 
-// Marks the nodes that tight residual arcs from `from` on lead to from the sources, which stand in the queue, each above the node it is reached from, and notes the arcs, until a wanted node is reached: that node, or NO_NODE if all are marked and none is wanted.
+// Marks the nodes that tight residual arcs from `from` on lead to from the sources, which stand in the queue, each above the node it is reached from, and notes the arcs, until a wanted node is reached: that node, or none if all are marked and none is wanted.
 pub fn search(
-    tails: &[u8],
-    heads: &[u8],
-    lowers: &[u16],
-    uppers: &[u16],
-    costs: &[u64],
-    x: &[u16],
-    pot: &[u64],
+    r: ResidualGraph,
     from: usize,
-    dist: &mut [u8],
-    via: &mut [u16],
-    queue: &mut [u8],
+    space: &mut Space<'_>,
     wanted: &[u16],
-    outs: &[u16],
-    outlinks: &[u16],
-    ins: &[u16],
-    inlinks: &[u16],
     sources: usize,
-) -> usize
-    requires shaped { Shaped (residual tails.now heads.now lowers.now uppers.now costs.now x.now pot.now) (length dist.old) }
-    requires workspace { Workspace tails.now heads.now lowers.now uppers.now (length dist.old) dist.old via.old queue.old outs.now outlinks.now ins.now inlinks.now }
-    requires wanted_len { length wanted.now ≡ length dist.old }
-    requires fresh { Fresh dist.old }
-    requires lined { Lined dist.old sources queue.old }
-    ensures { Sought (residual tails.now heads.now lowers.now uppers.now costs.now x.now pot.now) from dist.old wanted.now dist.new via.new result }
+) -> Option<usize>
+    requires workspace { Workspace r.graph.nodes space.old }
+    requires wanted_len { length wanted.now ≡ r.graph.nodes }
+    requires fresh { Fresh space.old.dist.now }
+    requires lined { Lined space.old.dist.now sources space.old.queue.now }
+    ensures sought { Sought (lists_of r.entry) from space.old.dist.now wanted.now space.new.dist.now space.new.via.now result }
+    ensures workspace { Workspace r.entry.graph.nodes space.new }
 {
     let mut count = sources;
     let mut next = 0;
+    // A while: the queue grows in its body.
     while next < count {
-        let u = node_at(queue, next);
+        let u = node_at(space, next);
         if wanted[u] > 0 {
-            return u;
+            return Some(u);
         }
-        count = visit(
-            tails, heads, lowers, uppers, costs, x, pot, from, dist, via, queue, wanted, outs,
-            outlinks, ins, inlinks, u, count,
-        );
-        let newest = node_at(queue, count - 1);
+        count = visit(r, from, space, wanted, u, count);
+        let newest = node_at(space, count - 1);
         if wanted[newest] > 0 {
-            return newest;
+            return Some(newest);
         }
         next += 1;
     }
-    NO_NODE
+    None
 }

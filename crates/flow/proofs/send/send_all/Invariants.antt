@@ -1,17 +1,16 @@
 -- `send_all`: the invariant is that `rest` units are left, with all that sending some of them asks for; the measure is `rest`.
-use mathlib.Core.Path.{◌≡◌}
-use Prim.Native.Nat.{◌*◌}
-use lib.ListN.{length}
-use Rattle.residual.specs.Residual.{residual}
-use Rattle.residual.specs.Chains.{Workspace}
+use Rattle.std.proofs.Common.{◌≡◌}
+use Rattle.residual.specs.Graphs.{residual_on}
+use Rattle.residual.specs.Arcs.{tails_of, heads_of}
 use Rattle.flow.specs.Network.{total}
-use Rattle.flow.specs.Solver.{Carried, Ready, phase_most}
+use Rattle.flow.specs.Solver.{Carried, Loaded}
 use Rattle.flow.proofs.send.send_all.Given as goal
 
 abbrev pub invariant-loop-rest : goal.invariant-loop-rest
 invariant-loop-rest l =
-    Ready (residual l.tails l.heads l.lowers l.uppers l.costs l.x l.pot) (phase_most * total l.left) l.left l.lack × Carried l.tails l.heads l.initial.x l.initial.left l.initial.lack l.x l.left l.lack
-    × (total l.left ≡ l.rest) × (length l.left ≡ length l.initial.left) × Workspace l.tails l.heads l.lowers l.uppers (length l.left) l.dist l.via l.queue l.outs l.outlinks l.ins l.inlinks
+    Loaded (residual_on l.graph l.x l.pot) l.graph.nodes l.units l.space
+    × Carried (tails_of l.graph.arcs.now) (heads_of l.graph.arcs.now) l.fn.x l.fn.units.left.now l.fn.units.lack.now l.x l.units.left.now l.units.lack.now
+    × (total l.units.left.now ≡ l.rest)
 
 abbrev pub decreases-loop-rest : goal.decreases-loop-rest
 decreases-loop-rest l = l.rest

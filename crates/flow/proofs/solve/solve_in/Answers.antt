@@ -1,37 +1,30 @@
 -- `solve_in`: from the start to the least flow or to a cut.
-use mathlib.Core.Path.{◌≡◌, sym, ◌∙◌}
-use native.Mathlib.Omega.{arith}
-use Rattle.flow.specs.Network.{total, excess, network}
-use Rattle.flow.specs.Solver.{Spread}
-use Rattle.flow.proofs.Capping.{spread_of, spread_total, ready_first, capped_bounds, ended}
+use Rattle.std.proofs.Common.{◌≡◌, sym, ◌∙◌, is_ok, arith}
+use Rattle.flow.specs.Network.{excess}
+use Rattle.flow.specs.Nodes.{network_from}
+use Rattle.flow.proofs.Capping.{spread_total}
+use Rattle.flow.proofs.Arrays.{ready_arcs, capped_arcs, ended_arcs}
 use Rattle.flow.proofs.solve.solve_in.Goals as goal
-use Rattle.flow.proofs.solve.solve_in.Goals.{After-spread}
+use Rattle.flow.proofs.solve.solve_in.Goals.{After-prepare}
 
--- what is left and lacking at first
-module _ (p : After-spread) where
-  spreads : Spread (network p.args.tails.now p.args.heads.now p.args.lowers.now p.args.uppers.now p.args.costs.now p.args.supplies.now p.args.demands.now) p.spread.new.left p.spread.new.lack
-  spreads = spread_of _ _ _ p.args.uppers.now p.args.costs.now _ _ _ _ p.spread.ensures
+-- what is left at first is the excess
+left_first : (p : After-prepare) → p.total_left-most.result ≡ excess (network_from p.args.arcs.now p.args.nodes.now)
+left_first p = p.total_left-most.ensures ∙ spread_total _ _ _ p.spread.ensures
 
-  all : total p.spread.new.left ≡ excess (network p.args.tails.now p.args.heads.now p.args.lowers.now p.args.uppers.now p.args.costs.now p.args.supplies.now p.args.demands.now)
-  all = spread_total _ _ _ spreads
+pub total_left-most-requires : goal.total_left-most-requires
+total_left-most-requires c = omega (arith, spread_total _ _ _ c.spread.ensures, c.requires.sound.few)
 
-pub total_of-most-requires : goal.total_of-most-requires
-total_of-most-requires c = omega (arith, all (goal.at.total_of-most-requires c).After-spread, c.requires.sound.few)
+pub link-requires-clause-ready : goal.link-requires-clause-ready
+link-requires-clause-ready c =
+    let p = (goal.at.link-requires-clause-ready c).After-prepare in
+    ready_arcs _ _ c.requires.sound _ (left_first p) _ c.prepare.ensures.capped_after _ _ c.spread.ensures (sym c.total_left-most.ensures) _ _ c.prepare.ensures.x_after c.requires.pot_zeros
 
-pub prepare-requires-clause-most_bound : goal.prepare-requires-clause-most_bound
-prepare-requires-clause-most_bound c = omega (arith, all (goal.at.prepare-requires-clause-most_bound c).After-spread, c.requires.sound.few)
-
-pub finish-requires-clause-ready : goal.finish-requires-clause-ready
-finish-requires-clause-ready c =
-    let p = (goal.at.finish-requires-clause-ready c).After-spread in
-    let e = c.total_of-most.ensures in
-    rw c.prepare.ensures.x_after (ready_first _ c.requires.sound _ (e ∙ all p) _ c.prepare.ensures.caps _ _ (spreads p) _ c.requires.space.pot_zeros (sym e))
-
-pub finish-requires-clause-capped : goal.finish-requires-clause-capped
-finish-requires-clause-capped c = capped_bounds _ c.requires.sound _ (c.total_of-most.ensures ∙ all (goal.at.finish-requires-clause-capped c).After-spread) _ c.prepare.ensures.caps c.prepare.new.x c.args.pot.now
+pub link-requires-clause-capped : goal.link-requires-clause-capped
+link-requires-clause-capped c =
+    let p = (goal.at.link-requires-clause-capped c).After-prepare in
+    capped_arcs _ _ c.requires.sound _ (left_first p) _ c.prepare.ensures.capped_after c.prepare.new.x c.args.pot.now
 
 pub returns : goal.returns
 returns c =
-    let p = (goal.at.returns c).After-spread in
-    let e = c.total_of-most.ensures in
-    ended _ c.requires.sound _ (e ∙ all p) _ c.prepare.ensures.caps _ _ (spreads p) (sym e) c.prepare.new.x c.finish.new.x c.prepare.ensures.x_after c.finish.result c.finish.ensures
+    let p = (goal.at.returns c).After-prepare in
+    ended_arcs _ _ c.requires.sound _ (left_first p) _ c.prepare.ensures.capped_after _ _ c.spread.ensures (sym c.total_left-most.ensures) c.prepare.new.x c.link.new.x c.prepare.ensures.x_after (is_ok c.link.result) c.link.ensures

@@ -1,13 +1,11 @@
 -- `prepare`: the invariant is that the arcs below a are set.
-use mathlib.Core.Path.{◌≡◌}
-use Prim.Native.Nat.{ℕ, ◌+◌, ◌-◌, ◌≤◌, ◌<◌, min}
-use lib.ListN.{length, get_or}
+use Rattle.std.proofs.Common.{◌≡◌, ℕ, ◌<◌, get_or}
+use Rattle.residual.specs.Arcs.{lowers_of}
+use Rattle.residual.proofs.ArcLists.{no_arc}
+use Rattle.flow.specs.Nodes.{capped_arc}
 use Rattle.flow.proofs.start.prepare.Given as goal
 
 abbrev pub invariant-loop-a : goal.invariant-loop-a
 invariant-loop-a l =
-    (length l.x ≡ length l.initial.x) × (length l.caps ≡ length l.initial.caps) × ((u : ℕ) → u < l.a → get_or l.x u 0 ≡ get_or l.lowers u 0)
-    × ((u : ℕ) → u < l.a → get_or l.caps u 0 ≡ min (get_or l.uppers u 0) (get_or l.lowers u 0 + l.most)) × (l.a ≤ length l.lowers)
-
-abbrev pub decreases-loop-a : goal.decreases-loop-a
-decreases-loop-a l = length l.lowers - l.a
+    ((u : ℕ) → u < l.a → get_or l.x u 0 ≡ get_or (lowers_of l.arcs) u 0)
+    × ((u : ℕ) → u < l.a → get_or l.capped u no_arc ≡ capped_arc l.most (get_or l.arcs u no_arc))

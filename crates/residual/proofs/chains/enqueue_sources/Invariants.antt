@@ -1,11 +1,7 @@
 -- `enqueue_sources`: the invariant is that the sources below v stand in the first `count` places.
-use Prim.Native.Nat.{◌-◌}
-use lib.ListN.{length}
+use Rattle.std.proofs.Common.{◌≡◌}
 use Rattle.residual.proofs.Chaining.{Lining}
 use Rattle.residual.proofs.chains.enqueue_sources.Given as goal
 
 abbrev pub invariant-loop-v : goal.invariant-loop-v
-invariant-loop-v l = Lining l.dist l.v l.count l.queue
-
-abbrev pub decreases-loop-v : goal.decreases-loop-v
-decreases-loop-v l = length l.dist - l.v
+invariant-loop-v l = Lining l.initial.space.dist.now l.v l.count l.space.queue.now × (l.space.dist.now ≡ l.initial.space.dist.now) × (l.space.via.now ≡ l.initial.space.via.now)

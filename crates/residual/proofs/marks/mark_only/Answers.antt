@@ -1,14 +1,10 @@
--- `mark_only`: the invariant is that each node below v is unreached.
-use mathlib.Core.Path.{◌≡◌}
-use Prim.Native.Nat.{ℕ, ◌<◌}
-use native.Mathlib.Omega.{arith}
-use lib.ListN.{length, get_or}
-use Rattle.residual.proofs.Sources.{only_lined}
+-- `mark_only`: before the one mark each node is unreached.
+use Rattle.std.proofs.Common.{◌≡◌, length, replicate, arith, rules}
+use Rattle.residual.proofs.Sources.{only_lined, all_unreached}
 use Rattle.residual.proofs.marks.mark_only.Goals as goal
 
 pub returns-clause-lined : goal.returns-clause-lined
 returns-clause-lined c =
-    let l = c.loop-v in
-    let node : c.args.source < length l.dist = omega arith in
-    let all : (v : ℕ) → v < length l.dist → get_or l.dist v 0 ≡ 255 = λ v h. l.invariant.1 v (omega arith) in
-    only_lined l.dist c.args.source node all c.args.queue.now (omega arith)
+    let space = c.args.space.now in
+    let filled : c.fill.new.self ≡ replicate (length space.dist.now) 255 = search rules in
+    only_lined c.fill.new.self c.args.source (omega arith) (all_unreached _ filled) space.queue.now (omega arith)

@@ -2,5 +2,5 @@
 use Rattle.residual.proofs.Gaps.{from_both}
 use Rattle.residual.proofs.prices.gap_at.Goals as goal
 
-pub returns : goal.returns
-returns c = from_both c.gap_by-on.ensures c.gap_by.ensures
+pub returns-clause-closest : goal.returns-clause-closest
+returns-clause-closest c = from_both c.gap_by-on.ensures.closest c.gap_by.ensures.closest

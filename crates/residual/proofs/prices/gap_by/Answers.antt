@@ -4,7 +4,10 @@ use Rattle.residual.proofs.Gaps.{closing_next, closing_done}
 use Rattle.residual.proofs.prices.gap_by.Goals as goal
 
 pub loop-at-preserved : goal.loop-at-preserved
-loop-at-preserved c = closing_next c.requires.chain (near_long c.args.on c.requires.shaped) c.requires.standing.node c.loop-at.invariant c.loop-at-test.true c.slack_at.result c.lesser-best.result c.slack_at.ensures c.lesser-best.ensures
+loop-at-preserved c = (
+  rw c.from-at-in-loop-at.ensures (closing_next c.requires.chain (near_long c.args.on c.args.r.shaped) c.requires.standing.node c.loop-at.invariant.0 c.loop-at-test.true _ _ c.slack_at.ensures.slack c.lesser-best.ensures.lesser),
+  c.lesser-best.ensures.positive,
+)
 
-pub returns : goal.returns
-returns c = closing_done c.requires.chain (near_long c.args.on c.requires.shaped) c.requires.standing.node c.loop-at.invariant c.requires.shaped.within c.loop-at-test.false
+pub returns-clause-closest : goal.returns-clause-closest
+returns-clause-closest c = closing_done c.requires.chain (near_long c.args.on c.args.r.shaped) c.requires.standing.node c.loop-at.invariant.0 c.args.r.shaped.within c.loop-at-test.false

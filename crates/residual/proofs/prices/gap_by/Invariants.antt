@@ -1,10 +1,13 @@
 -- `gap_by`: the invariant is the gap over the arcs at u from `at` on; the measure is `at`.
-use Rattle.residual.specs.Residual.{residual, near_ends}
+use Rattle.std.proofs.Common.{unwrap_or}
+use Rattle.residual.specs.Residual.{near_ends}
+use Rattle.residual.specs.Graphs.{lists_of}
+use Rattle.residual.specs.Prices.{Positive}
 use Rattle.residual.proofs.Gaps.{Closing}
 use Rattle.residual.proofs.prices.gap_by.Given as goal
 
 abbrev pub invariant-loop-at : goal.invariant-loop-at
-invariant-loop-at l = (let r = residual l.tails l.heads l.lowers l.uppers l.costs l.x l.pot in Closing r l.dist (near_ends l.on r) l.u l.at l.most l.best)
+invariant-loop-at l = Closing (lists_of l.r) l.dist (near_ends l.on (lists_of l.r)) l.u l.at (unwrap_or l.fn.most 0) (unwrap_or l.best 0) × Positive l.best
 
 abbrev pub decreases-loop-at : goal.decreases-loop-at
 decreases-loop-at l = l.at

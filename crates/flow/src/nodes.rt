@@ -1,0 +1,37 @@
+//! Nodes, the units that they have left or lack, and the answer that there is no flow.
+ghost use Rattle.std.specs.Prelude.{◌≡◌, ◌<◌};
+ghost use Rattle.flow.specs.Network.{total};
+
+// A node: the units that start there, and those that end there.
+#[derive(Clone, Copy)]
+pub struct Node {
+    pub supply: u16,
+    pub demand: u16,
+}
+
+// By node: the units that it has left, and those that it lacks.
+#[derive(Drop)]
+pub struct Units<'a> {
+    pub left: &'a mut [u16],
+    pub lack: &'a mut [u16],
+}
+
+// No flow meets all supplies and demands within the bounds.
+#[derive(Clone, Copy, PartialEq, Eq, Debug)]
+pub struct Infeasible;
+
+// The sum of a few numbers.
+pub fn total_of(xs: &[u16]) -> u16
+    requires { total xs.now < 65536 }
+    ensures { result ≡ total xs.now }
+{
+    xs.iter().sum()
+}
+
+// How many units are left.
+pub fn total_left(units: &Units<'_>) -> u16
+    requires { total units.now.left.now < 65536 }
+    ensures { result ≡ total units.now.left.now }
+{
+    total_of(units.left)
+}
