@@ -37,17 +37,17 @@ module _ (q : Held) where
   pub few_posts : q.posts ≤ 64
   few_posts = omega (arith, q.stands.same_posts, f.posts_most)
 
-  few_darts : darts p ≤ 256
-  few_darts = darts_few p f o
+  pub few_darts : q.darts ≤ 256
+  few_darts = omega (arith, q.stands.dart_count, darts_few p f o)
 
   pub few_faces : q.faces ≤ 66
   few_faces = omega (arith, q.stands.face_count, f.euler, f.posts_most, darts_most p f o)
 
   pub ends_are : (d : ℕ) → d < darts (meant q) → get_or q.ends (twin d) 0 ≡ ends_at (meant q) d
-  ends_are d l = q.stands.strip_ends.at (twin d) (omega (arith, twin_dart p o d l, few_darts))
+  ends_are d l = q.stands.strip_ends.at (twin d) (omega (arith, twin_dart p o d l, few_darts, q.stands.dart_count))
 
   pub faces_are : (d : ℕ) → d < darts (meant q) → get_or q.face d 0 ≡ face_number (meant q) d
-  faces_are d l = q.stands.face_numbers.at d (omega (arith, few_darts)) ∙ up_below (darts p) (face_number p) d l
+  faces_are d l = q.stands.face_numbers.at d (omega (arith, few_darts, q.stands.dart_count)) ∙ up_below (darts p) (face_number p) d l
 
   pub ends_keys : Keys 64 q.ends
   ends_keys = record { long = q.stands.strip_ends.size; below = all-below 64 q.ends (λ i l. at i l (dec_lt i (darts p))) }
@@ -67,10 +67,10 @@ module _ (q : Held) where
   outer_below = omega (arith, q.stands.outer_dart, f.outer_dart)
 
   pub outer_key : q.outer < length q.face
-  outer_key = omega (arith, outer_below, few_darts, q.stands.face_numbers.size)
+  outer_key = omega (arith, outer_below, few_darts, q.stands.dart_count, q.stands.face_numbers.size)
 
   pub few_angles : (al : List ℕ) → length al ≡ q.darts → length al ≤ 256
-  few_angles al long = omega (arith, q.stands.dart_count, few_darts)
+  few_angles al long = omega (arith, few_darts)
 
   pub counts_are : (al rs : List ℕ) → length al ≡ q.darts → length rs ≡ q.darts → Counted al rs
   counts_are al rs al_long rs-long =

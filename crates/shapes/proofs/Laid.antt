@@ -1,17 +1,18 @@
 -- The lists that are laid for a held plate are those of its network: by dart, corner, post and face.
 use mathlib.Core.Path.{◌≡◌, refl, sym, ap, ◌∙◌}
-use mathlib.Core.Bool.{Bool}
+use mathlib.Core.Bool.{Bool, true, false}
 use mathlib.Core.List.{List, map}
-use Prim.Native.Nat.{ℕ, ◌+◌, ◌-◌, ◌*◌, ◌%◌, ◌≤◌, ◌<◌}
-use native.Mathlib.Decide.{dec_lt}
+use Prim.Native.Nat.{ℕ, ◌+◌, ◌-◌, ◌*◌, ◌≤◌, ◌<◌}
 use native.Mathlib.Omega.{arith}
 use borrow.Author.Tests.{ne_eqb, lt-ltb, le-ltb}
 use lib.Dec.{eqb}
 use lib.ListN.{length, get_or, replicate, length-replicate, get_or-replicate, length-map}
 use Rattle.finite.specs.Tables.{Table}
-use Rattle.finite.proofs.Tables.{up_below, up_from}
+use Rattle.finite.proofs.Tables.{up_below}
 use Rattle.finite.proofs.Tests.{eqb_turned}
-use Rattle.flow.specs.Network.{network}
+use Rattle.residual.specs.declared.arcs.Arc.{Arc}
+use Rattle.flow.specs.declared.nodes.Node.{Node}
+use Rattle.flow.specs.Nodes.{supplies_of, demands_of, network_from}
 use Rattle.embedding.specs.Plates.{pick, Plate, darts, twin, ends_at, degree, face_of, faces}
 use Rattle.embedding.specs.declared.Plate.{Plate as Held}
 use Rattle.embedding.specs.Read.{meant, face_number, face_size}
@@ -24,13 +25,13 @@ use Rattle.embedding.proofs.Degrees.{darts_few}
 use Rattle.embedding.proofs.Answers.{faces_fit}
 use Rattle.shapes.specs.Rates.{rates}
 use Rattle.shapes.specs.NetworkOf.{by_arc, face_node, is_outer, face_supply, face_demand, is_joint, bend_most, bend_cost, network_of, rated_of}
-use Rattle.shapes.specs.Entries.{node_at, joint_at, supply_at, demand_at, Faced, Jointed, Sized, Begun, CornersLaid, BendEnds, BendRates, CornerEnds, CornerRates}
+use Rattle.shapes.specs.Entries.{node_at, joint_at, supply_at, demand_at, bend_arc, corner_arc, node, no_arc, no_node, Begun, CornersLaid}
 use Rattle.shapes.proofs.Tables.{get_d_map_in}
 use Rattle.shapes.proofs.Places.{index_below, index_test, face_below_darts}
 use Rattle.shapes.proofs.Nodes.{eqb_shift}
 use Rattle.shapes.proofs.Accepted.{faultless, ordered}
-use Rattle.shapes.proofs.Filled.{arcs_laid, parts_are}
-use Rattle.shapes.proofs.HeldPlate.{few_posts, few_faces, faces_are, ends_keys}
+use Rattle.shapes.proofs.Filled.{arcs_laid, nodes_laid, parts_are}
+use Rattle.shapes.proofs.HeldPlate.{few_darts, faces_are}
 
 module _ (q : Held) where
   abbrev p : Plate
@@ -42,32 +43,17 @@ module _ (q : Held) where
   o : Ordered p
   o = ordered p q.accepted
 
-  few : q.darts ≤ 256
-  few = omega (arith, q.stands.dart_count, darts_few p f o)
-
   face_at : (d : ℕ) → d < q.darts → get_or q.face d 0 ≡ face_number p d
   face_at d l = faces_are q d (omega (arith, q.stands.dart_count))
 
   face_below : (d : ℕ) → d < q.darts → get_or q.face d 0 < length (faces p)
   face_below d l = omega (arith, face_at d l, index_below p o d (omega (arith, q.stands.dart_count)))
 
-  twin_below : (d : ℕ) → d < q.darts → twin d < q.darts
+  pub twin_below : (d : ℕ) → d < q.darts → twin d < q.darts
   twin_below d l = omega (arith, q.stands.dart_count, twin_dart p o d (omega (arith, q.stands.dart_count)))
 
   size_at : (i : ℕ) → i < length (faces p) → get_or q.sizes i 0 ≡ face_size p i
   size_at i l = q.stands.face_sizes.at i (omega (arith, faces_fit p f o)) ∙ up_below (length (faces p)) (face_size p) i l
-
-  pub held_faced : Faced q.posts q.darts q.face
-  held_faced = record {
-    posts_most = omega (arith, q.stands.same_posts, f.posts_most);
-    darts_most = few;
-    even = ap (λ (k : ℕ). k % 2) q.stands.dart_count ∙ q.accepted.even_darts;
-    face_long = q.stands.face_numbers.size;
-    small = λ d l. omega (arith, face_below d l, faces_fit p f o);
-  }
-
-  pub held_few : (q.darts ≤ 256) × (q.posts ≤ 64) × (q.faces ≤ 66)
-  held_few = (few, few_posts q, few_faces q)
 
   -- a face has each dart at most once
   size_most : (i : ℕ) → i < length (faces p) → face_size p i ≤ 256
@@ -75,15 +61,6 @@ module _ (q : Held) where
       let d = get_or (faces p) i 0 in
       let k : d < darts p = face_below_darts p o i l in
       omega (arith, at_most (darts p) (face_of p d) (face_distinct p o d k) (face_all_below p o d k), darts_few p f o)
-
-  pub held_sized : Sized q.sizes
-  held_sized = record {
-    sizes_long = q.stands.face_sizes.size;
-    small = λ i l. elim (dec_lt i (length (faces p))) [
-      | yes k ↦ omega (arith, size_at i k, size_most i k)
-      | no k ↦ omega (arith, q.stands.face_sizes.at i l, up_from (length (faces p)) (face_size p) i (omega arith))
-    ];
-  }
 
   pub outer_below : q.outer < q.darts
   outer_below = omega (arith, q.stands.outer_dart, q.stands.dart_count, f.outer_dart)
@@ -99,7 +76,7 @@ module _ (q : Held) where
   node_is d l = omega (arith, q.stands.same_posts, face_at d l)
 
   ends_are : (d : ℕ) → d < q.darts → get_or q.ends (twin d) 0 ≡ ends_at p d
-  ends_are d l = q.stands.strip_ends.at (twin d) (omega (arith, few, twin_below d l))
+  ends_are d l = q.stands.strip_ends.at (twin d) (omega (arith, few_darts q, twin_below d l))
 
   -- a joint is a post of degree 2
   joint_is : (d : ℕ) → d < q.darts → joint_at q.ends q.degrees d ≡ is_joint p d
@@ -108,10 +85,10 @@ module _ (q : Held) where
       ap (λ (v : ℕ). eqb (get_or q.degrees v 0) 2) (ends_are d l)
       ∙ ap (λ (n : ℕ). eqb n 2) (q.stands.post_degrees.at (ends_at p d) (omega (arith, f.posts_most)) ∙ up_below p.posts (degree p) (ends_at p d) k)
 
-  -- the lists by arc
-  by-arc : (f g h : ℕ → ℕ) → {f₀ g₀ h₀ : ℕ → ℕ} {ys xs : List ℕ} → Begun (q.darts + (q.darts + q.darts)) f₀ q.darts ys → CornersLaid q.darts g₀ h₀ q.darts ys xs
-      → ((d : ℕ) → d < q.darts → f₀ d ≡ f d) → ((d : ℕ) → d < q.darts → g₀ d ≡ g d) → ((d : ℕ) → d < q.darts → h₀ d ≡ h d) → xs ≡ by_arc (darts p) f g h
-  by-arc f g h b c bend low high = arcs_laid b c f g h bend low high ∙ ap (λ (n : ℕ). by_arc n f g h) q.stands.dart_count
+  -- one number of each arc
+  by-arc : (field : Arc → ℕ) → field no_arc ≡ 0 → (f g h : ℕ → ℕ) → {f₀ g₀ h₀ : ℕ → Arc} {ys xs : List Arc} → Begun no_arc (q.darts + (q.darts + q.darts)) f₀ q.darts ys → CornersLaid q.darts g₀ h₀ q.darts ys xs
+      → ((d : ℕ) → d < q.darts → field (f₀ d) ≡ f d) → ((d : ℕ) → d < q.darts → field (g₀ d) ≡ g d) → ((d : ℕ) → d < q.darts → field (h₀ d) ≡ h d) → map field xs ≡ by_arc (darts p) f g h
+  by-arc field none f g h b c bend low high = arcs_laid field none b c f g h bend low high ∙ ap (λ (n : ℕ). by_arc n f g h) q.stands.dart_count
 
   outer_test : (i : ℕ) → i < length (faces p) → eqb (q.posts + i) outer ≡ is_outer p (get_or (faces p) i 0)
   outer_test i l =
@@ -145,22 +122,30 @@ module _ (q : Held) where
       ∙ ap (λ (j : ℕ). 2 * get_or q.sizes j 0 + pick (eqb (q.posts + i) outer) 4 0) e
       ∙ face-demand i k ∙ sym (get_d_map_in (face_demand p) (faces p) i k))
 
-  pub network_laid : (limits prices : List ℕ) {ts₀ hs₀ ls₀ us₀ cs₀ ts hs ls us cs ss ds : List ℕ}
-      → BendEnds q.posts q.darts q.face q.darts ts₀ hs₀ → BendRates q.darts limits prices q.darts ls₀ us₀ cs₀
-      → CornerEnds q.posts q.darts q.ends q.face q.darts ts₀ hs₀ ts hs → CornerRates q.darts q.ends q.degrees q.darts ls₀ us₀ cs₀ ls us cs
-      → Table (q.posts + q.faces) (supply_at (q.posts + get_or q.face q.outer 0)) ss
-      → Table (q.posts + q.faces) (demand_at q.posts q.sizes (q.posts + get_or q.face q.outer 0)) ds
-      → network ts hs ls us cs ss ds ≡ rated_of (meant q) (rates limits prices)
-  network_laid limits prices {ss = ss} {ds = ds} be br ce cr su d = λ i. record {
-    tails = by-arc (λ d. face_node p d) (λ d. ends_at p d) (λ d. ends_at p d) be.tails_begun ce.tails_laid node_is ends_are ends_are i;
-    heads = by-arc (λ d. face_node p (twin d)) (λ d. face_node p d) (λ d. face_node p d) be.heads_begun ce.heads_laid (λ d l. node_is (twin d) (twin_below d l)) node_is node_is i;
-    lowers = by-arc (λ d. 0) (λ d. 1) (λ d. 0) br.lowers_begun cr.lowers_laid (λ d l. refl) (λ d l. refl) (λ d l. refl) i;
-    uppers = by-arc (λ d. bend_most limits d) (λ d. pick (is_joint p d) 2 4) (λ d. pick (is_joint p d) 1 0) br.uppers_begun cr.uppers_laid (λ d l. refl)
+  pub network_laid : (limits prices : List ℕ) {ys arcs : List Arc} {nodes : List Node}
+      → Begun no_arc (q.darts + (q.darts + q.darts)) (bend_arc q (rates limits prices)) q.darts ys → CornersLaid q.darts (corner_arc q true) (corner_arc q false) q.darts ys arcs
+      → Begun no_node (q.posts + q.faces) (node q) (q.posts + q.faces) nodes
+      → network_from arcs nodes ≡ rated_of (meant q) (rates limits prices)
+  network_laid limits prices {nodes = nodes} b c n = λ i. record {
+    tails = by-arc (λ arc. arc.tail) refl (λ d. face_node p d) (λ d. ends_at p d) (λ d. ends_at p d) b c node_is ends_are ends_are i;
+    heads = by-arc (λ arc. arc.head) refl (λ d. face_node p (twin d)) (λ d. face_node p d) (λ d. face_node p d) b c (λ d l. node_is (twin d) (twin_below d l)) node_is node_is i;
+    lowers = by-arc (λ arc. arc.lower) refl (λ d. 0) (λ d. 1) (λ d. 0) b c (λ d l. refl) (λ d l. refl) (λ d l. refl) i;
+    uppers = by-arc (λ arc. arc.upper) refl (λ d. bend_most limits d) (λ d. pick (is_joint p d) 2 4) (λ d. pick (is_joint p d) 1 0) b c (λ d l. refl)
         (λ d l. ap (λ (b : Bool). pick b 2 4) (joint_is d l)) (λ d l. ap (λ (b : Bool). pick b 1 0) (joint_is d l)) i;
-    costs = by-arc (λ d. bend_cost prices d) (λ d. 0) (λ d. 65536) br.costs_begun cr.costs_laid (λ d l. refl) (λ d l. refl) (λ d l. refl) i;
-    supplies = supplies_are ss su i;
-    demands = demands_are ds d i;
+    costs = by-arc (λ arc. arc.cost) refl (λ d. bend_cost prices d) (λ d. 0) (λ d. 65536) b c (λ d l. refl) (λ d l. refl) (λ d l. refl) i;
+    supplies = supplies_are (supplies_of nodes) (nodes_laid (λ node. node.supply) refl n) i;
+    demands = demands_are (demands_of nodes) (nodes_laid (λ node. node.demand) refl n) i;
   }
 
-  pub held_jointed : Jointed q.darts q.ends q.degrees
-  held_jointed = record { darts_most = few; keyed = ends_keys q; degrees_long = q.stands.post_degrees.size }
+  -- what the steps to it ask
+  pub joint_below : (d : ℕ) → d < q.darts → get_or q.ends (twin d) 0 < 64
+  joint_below d l = omega (arith, ends_are d l, ends_at_below p o d (omega (arith, q.stands.dart_count)), f.posts_most)
+
+  pub held_face : (d : ℕ) → d < q.darts → get_or q.face d 0 < 66
+  held_face d l = omega (arith, face_below d l, faces_fit p f o)
+
+  pub held_size : (i : ℕ) → i < q.faces → get_or q.sizes i 0 ≤ 256
+  held_size i l = omega (arith, size_at i (omega (arith, q.stands.face_count)), size_most i (omega (arith, q.stands.face_count)))
+
+  pub dart_fits : (d : ℕ) → d < q.darts → (d < 256) × (twin d < 256)
+  dart_fits d l = (omega (arith, few_darts q), omega (arith, few_darts q, twin_below d l))

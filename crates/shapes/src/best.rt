@@ -3,14 +3,22 @@ ghost use Rattle.std.specs.Prelude.{◌≡◌, ℕ, ◌+◌, ◌%◌, ◌<◌, �
 ghost use Rattle.finite.specs.Tables.{Table};
 ghost use Rattle.embedding.specs.Read.{meant};
 ghost use Rattle.shapes.specs.Rates.{rates, Fair, pair_sums};
-ghost use Rattle.shapes.specs.Entries.{Lent};
+ghost use Rattle.shapes.specs.Entries.{ByArc, ByNode};
 ghost use Rattle.shapes.specs.BestOf.{BestHeld, Answers, Paired, Small, Taken};
 
 use crate::counts::{Counts, total_bends};
-use crate::network::lay_network;
+use crate::network::{arc_count, lay_network, node_count};
 use crate::rates::StripRates;
 use embedding::Plate;
+use flow::nodes::{Infeasible, Node};
 use flow::solve::solve;
+use residual::arcs::{Arc, NO_ARC};
+
+// What stands where no node is noted yet.
+const NO_NODE: Node = Node {
+    supply: 0,
+    demand: 0,
+};
 
 /// The right bends and the angle of each dart, and the sum of the right bends. Unused places are 0.
 #[derive(Clone, Copy)]
@@ -72,30 +80,22 @@ fn take_shape(darts: usize, x: &[u16]) -> BestShape
     }
 }
 
-// The answer, in lent space: lists by arc and by node.
+// The answer, in lent space.
 fn best_in(
-    q: Plate,
+    q: &Plate,
     by: StripRates,
-    tails: &mut [u8],
-    heads: &mut [u8],
-    lowers: &mut [u16],
-    uppers: &mut [u16],
-    costs: &mut [u64],
-    supplies: &mut [u16],
-    demands: &mut [u16],
+    arcs: &mut [Arc],
+    nodes: &mut [Node],
     x: &mut [u16],
 ) -> Option<BestShape>
-    requires { Fair (rates by.limits.now by.prices.now) × Lent q tails.old heads.old lowers.old uppers.old costs.old supplies.old demands.old × (length x.old ≡ q.darts + (q.darts + q.darts)) }
-    ensures { Answers (meant q) (rates by.entry.limits.now by.entry.prices.now) result }
+    requires { Fair (rates by.limits.now by.prices.now) × ByArc q.now arcs.old × ByNode q.now nodes.old × ByArc q.now x.old }
+    ensures { Answers (meant q.now) (rates by.entry.limits.now by.entry.prices.now) result }
 {
-    let darts = q.darts;
-    lay_network(
-        q, by, tails, heads, lowers, uppers, costs, supplies, demands,
-    );
-    if !solve(tails, heads, lowers, uppers, costs, supplies, demands, x) {
-        return None;
+    lay_network(q, by, arcs, nodes);
+    match solve(arcs, nodes, x) {
+        Ok(()) => Some(take_shape(q.darts, x)),
+        Err(Infeasible) => None,
     }
-    Some(take_shape(darts, x))
 }
 
 /// The best shape of an accepted plate within limits, by prices of bends, if some shape keeps the limits.
@@ -103,27 +103,17 @@ pub fn best_by(q: Plate, by: StripRates) -> Option<BestShape>
     requires { Fair (rates by.limits.now by.prices.now) }
     ensures { Answers (meant q) (rates by.entry.limits.now by.entry.prices.now) result }
 {
-    let arcs = q.darts + (q.darts + q.darts);
-    let nodes = q.posts + q.faces;
-    let mut tails = [0u8; 768];
-    let mut heads = [0u8; 768];
-    let mut lowers = [0u16; 768];
-    let mut uppers = [0u16; 768];
-    let mut costs = [0u64; 768];
-    let mut supplies = [0u16; 130];
-    let mut demands = [0u16; 130];
+    let by_arc = arc_count(&q);
+    let by_node = node_count(&q);
+    let mut arcs = [NO_ARC; 768];
+    let mut nodes = [NO_NODE; 130];
     let mut x = [0u16; 768];
     best_in(
-        q,
+        &q,
         by,
-        &mut tails[..arcs],
-        &mut heads[..arcs],
-        &mut lowers[..arcs],
-        &mut uppers[..arcs],
-        &mut costs[..arcs],
-        &mut supplies[..nodes],
-        &mut demands[..nodes],
-        &mut x[..arcs],
+        &mut arcs[..by_arc],
+        &mut nodes[..by_node],
+        &mut x[..by_arc],
     )
 }
 

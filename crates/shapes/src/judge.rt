@@ -107,8 +107,7 @@ fn posts_ok(q: Plate, angles: &[u8]) -> bool
     requires { length angles.now ≡ q.darts }
     ensures { result ≡ posts_ok (meant q).posts 0 (meant q) angles.now }
 {
-    let ends = q.ends;
-    all_four(post_angles(&ends, angles), q.posts)
+    all_four(post_angles(&q.ends, angles), q.posts)
 }
 
 // The turns of each face add to what they should.
@@ -116,10 +115,9 @@ fn faces_ok(q: Plate, counts: Counts) -> bool
     requires { length counts.angles.now ≡ q.darts }
     ensures { result ≡ faces_ok (meant q) counts.entry.angles.now (shape_of (meant q) counts.entry.angles.now counts.entry.rights.now).words (faces (meant q)) }
 {
-    let face = q.face;
-    let plus = face_plus(&face, counts.rights);
-    let minus = face_minus(&face, counts);
-    let outer = key_of(&face, 66, usize::from(q.outer));
+    let plus = face_plus(&q.face, counts.rights);
+    let minus = face_minus(&q.face, counts);
+    let outer = key_of(&q.face, 66, usize::from(q.outer));
     all_turn(plus, minus, q.faces, outer)
 }
 
