@@ -1,5 +1,5 @@
 -- Arcs held to their caps: the lists by arc are as before, but for the upper bounds.
-use Rattle.std.proofs.Common.{◌≡◌, refl, sym, ap, ◌∙◌, subst, Bool, true, false, List, [], ◌∷◌, ℕ, ◌+◌, ◌*◌, zero, suc, ◌≤◌, ◌<◌, min, map, length, get_or, arith}
+use Rattle.std.proofs.Common.{◌≡◌, refl, sym, ap, ◌∙◌, subst, Bool, List, [], ◌∷◌, ℕ, ◌+◌, ◌*◌, zero, suc, ◌≤◌, ◌<◌, min, map, length, get_or, arith}
 use Rattle.std.proofs.lemmas.List.{length-map}
 use native.Mathlib.Decide.{dec_lt}
 use lib.ListN.{get_or-eq_default}

@@ -1,31 +1,27 @@
--- Networks that stand one behind the other in tables: each is sound, by one test of all of them that computes.
-use mathlib.Core.Path.{◌≡◌, refl}
-use mathlib.Core.Bool.{Bool, true, ◌&&◌}
-use mathlib.Core.List.{List}
-use Prim.Native.Nat.{ℕ, zero, suc, ◌+◌, ◌-◌, ◌*◌, ◌<◌}
-use native.Mathlib.Omega.{arith}
-use lib.ListN.{take, drop}
-use Rattle.finite.proofs.Tests.{and_left, and_right, from_each}
-use Rattle.flow.specs.Network.{Network, network, Sound}
+-- Networks that stand one behind the other in a table: each is sound, by one test of all of them that computes.
+use Rattle.std.proofs.Common.{◌≡◌, Bool, true, ◌&&◌, List, [], ◌∷◌, ℕ, zero, suc, ◌<◌, length, get_or, arith}
+use Rattle.finite.proofs.Tests.{and_parts}
+use Rattle.flow.specs.Network.{Network, Sound}
+use Rattle.flow.specs.Nodes.{network_from}
+use Rattle.networks.specs.declared.Network.{Network as Row}
 use Rattle.flow.proofs.Checks.{long_as, fits, inside, checked_sound}
 
--- the k-th part of w numbers
-abbrev pub part : ℕ → ℕ → List ℕ → List ℕ
-part w k xs = take (w * k + w - w * k) (drop (w * k) xs)
+abbrev pub ok : Network → Bool
+ok n = long_as n && (fits n && inside n)
 
-module _ (ts hs ls us cs ss ds : List ℕ) where
-  abbrev pub row : ℕ → Network
-  row k = network (part 6 k ts) (part 6 k hs) (part 6 k ls) (part 6 k us) (part 6 k cs) (part 4 k ss) (part 4 k ds)
+-- the test of each element of a table, each read as a network
+abbrev pub all_ok : {A : Type 0} → (A → Network) → List A → Bool
+all_ok of [] = true
+all_ok of (row ∷ rows) = ok (of row) && all_ok of rows
 
-  abbrev pub ok : ℕ → Bool
-  ok k = long_as (row k) && (fits (row k) && inside (row k))
+pub row_sound : {A : Type 0} (of : A → Network) (rows : List A) → all_ok of rows ≡ true → (k : ℕ) (d : A) → k < length rows → Sound (of (get_or rows k d))
+row_sound of [] e k d l = absurd (omega arith)
+row_sound of (row ∷ rows) e zero d l =
+    let (long, rest) = and_parts _ _ (and_parts (ok (of row)) (all_ok of rows) e).0 in
+    let (fit, in') = and_parts _ _ rest in
+    checked_sound (of row) long fit in'
+row_sound of (row ∷ rows) e (suc k) d l = row_sound of rows (and_parts (ok (of row)) (all_ok of rows) e).1 k d (omega arith)
 
-  abbrev pub all_ok : ℕ → ℕ → Bool
-  all_ok zero k = true
-  all_ok (suc n) k = ok k && all_ok n (suc k)
-
-  pub row_sound : (n : ℕ) → all_ok n 0 ≡ true → (k : ℕ) → k < n → Sound (row k)
-  row_sound n e k l =
-      let here : ok k ≡ true = from_each all_ok ok (λ a. refl) (λ m a. refl) n 0 e k (omega arith) (omega arith) in
-      let rest : fits (row k) && inside (row k) ≡ true = and_right (long_as (row k)) (fits (row k) && inside (row k)) here in
-      checked_sound (row k) (and_left (long_as (row k)) (fits (row k) && inside (row k)) here) (and_left (fits (row k)) (inside (row k)) rest) (and_right (fits (row k)) (inside (row k)) rest)
+-- an element of the program's table
+abbrev pub row_of : Row → Network
+row_of row = network_from row.arcs row.nodes

@@ -96,14 +96,6 @@ module _ {ends lowers uppers last before : List ℕ} {nodes k : ℕ} (c : Chaini
     before_at = λ a h. c.before_at a (omega (arith, e));
   }
 
--- lower bounds above let fewer arcs move, and the arcs at each node are still among the linked ones
-module _ {ends lowers uppers caps : List ℕ} (fewer : (a : ℕ) → Movable lowers caps a → Movable lowers uppers a) where
-  last_fewer : {v k at : ℕ} → Last ends lowers uppers v k at → Last ends lowers caps v k at
-  last_fewer l = record { below = l.below; here = l.here; later = λ b h e m. l.later b h e (fewer b m) }
-
-  pub chain_fewer : {nodes : ℕ} {last before : List ℕ} → Chain ends lowers uppers nodes last before → Chain ends lowers caps nodes last before
-  chain_fewer c = record { last_long = c.last_long; before_long = c.before_long; last_at = λ v h. last_fewer (c.last_at v h); before_at = λ a h. last_fewer (c.before_at a h) }
-
 -- ---- the arcs at one node, from the last down
 
 -- the arcs at u that can move, from `at` on, are so; below `at` the next is at - 1

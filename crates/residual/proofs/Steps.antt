@@ -4,19 +4,12 @@ use Rattle.std.proofs.Common.{None, Some}
 use mathlib.Core.Logic.{◌⊎◌, inl, inr, ⊎_elim}
 use mathlib.Core.Bool.{Bool, true, false}
 use mathlib.Core.List.{List}
-use Prim.Native.Nat.{ℕ, ◌≤◌, ◌<◌}
+use Prim.Native.Nat.{ℕ, ◌<◌}
 use native.Mathlib.Omega.{arith}
 use lib.ListN.{length, get_or}
-use Rattle.residual.specs.Residual.{Residual, Tells, Shaped, near_ends, far_end, Room, Even, OpenAt, tight, reached}
+use Rattle.residual.specs.Residual.{Residual, Shaped, near_ends, far_end, Room, Even, OpenAt, tight, reached}
 use Rattle.residual.specs.Searches.{Spent, Reach, Standing}
 use Rattle.residual.specs.Prices.{short, Fits, Sums, Slack}
-
--- a test's answer tells whether its fact holds
-pub told : (fact : Type 0) (b : Bool) → Tells b fact → b ≡ true → fact
-told fact b t e = subst (λ (b : Bool). Tells b fact) e t
-
-pub untold : (fact : Type 0) (b : Bool) → Tells b fact → b ≡ false → fact → ⊥
-untold fact b t e = subst (λ (b : Bool). Tells b fact) e t
 
 -- each end of every arc has its place
 pub near_long : {r : Residual} {nodes : ℕ} (on : Bool) → Shaped r nodes → length (near_ends on r) ≡ length r.tails

@@ -25,7 +25,7 @@ pub const NO_ARC: Arc = Arc {
     cost: 0,
 };
 
-// The mark of a node that no source leads to. A byte in place of an option, as a search compares marks in order.
+// The mark of a node that no source leads to. A mark in a byte, no option: it is above every other in the order by which the tree is proved.
 pub const UNREACHED: u8 = 255;
 
 // Whether an arc of this cost is tight between potentials low and high.
@@ -39,7 +39,11 @@ pub fn is_tight(cost: u64, low: u64, high: u64) -> bool
 pub fn is_even(on: bool, cost: u64, near: u64, far: u64) -> bool
     ensures { Tells result (Even on cost near far) }
 {
-    if on { is_tight(cost, near, far) } else { is_tight(cost, far, near) }
+    if on {
+        is_tight(cost, near, far)
+    } else {
+        is_tight(cost, far, near)
+    }
 }
 
 // Whether there is room between an arc's bounds for a step on, or back.
@@ -57,12 +61,12 @@ pub fn near_end(arcs: &[Arc], on: bool, a: usize) -> usize
     usize::from(if on { arcs[a].tail } else { arcs[a].head })
 }
 
-// Where a step on, or back, along arc a leads.
+// Where a step on, or back, along arc a leads: where one the other way begins.
 pub fn far_end(arcs: &[Arc], on: bool, a: usize) -> usize
     requires { a < length arcs.now }
     ensures { result ≡ far_end on (tails_of arcs.now) (heads_of arcs.now) a }
 {
-    usize::from(if on { arcs[a].head } else { arcs[a].tail })
+    near_end(arcs, !on, a)
 }
 
 // Where a step on, or back, along arc a leads, if that node is new and there is room.

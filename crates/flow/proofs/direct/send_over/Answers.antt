@@ -1,5 +1,5 @@
 -- `send_over`: the units that it sends are no more than the tail has left, the head lacks and the arc has room for.
-use Rattle.std.proofs.Common.{ℕ, ◌+◌, ◌≤◌, ◌<◌, true, length, get_or, arith}
+use Rattle.std.proofs.Common.{◌+◌, ◌≤◌, ◌<◌, true, length, get_or, arith}
 use Rattle.residual.specs.Residual.{tight}
 use Rattle.residual.specs.Arcs.{tails_of, uppers_of}
 use Rattle.residual.specs.Graphs.{residual_on}

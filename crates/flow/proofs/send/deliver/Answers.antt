@@ -1,6 +1,5 @@
 -- `deliver`: a unit goes along the tree, from a node that has one left to the target, which lacks one.
 use Rattle.residual.proofs.Walks.{pushed}
-use Rattle.residual.specs.Graphs.{residual_on}
 use Rattle.flow.proofs.Phases.{carried, sent}
 use Rattle.flow.proofs.send.deliver.Goals as goal
 

@@ -1,5 +1,5 @@
 -- `explore`: what has something left is a source of the search, and what lacks something is wanted.
-use Rattle.std.proofs.Common.{◌≤◌, length, arith, ◌∙◌}
+use Rattle.std.proofs.Common.{◌≤◌, length, arith}
 use Rattle.residual.proofs.Sources.{marks_fresh}
 use Rattle.flow.proofs.send.explore.Goals as goal
 

@@ -1,10 +1,8 @@
 -- `settle_arc`: the invariant is a cheapest flow that is first below k; the measure is what arc k carries.
-use Rattle.std.proofs.Common.{◌≡◌, ℕ, ◌+◌, ◌<◌, ◌≤◌, true, length, get_or, sym, ◌∙◌, arith}
-use Rattle.residual.specs.Residual.{residual, tight}
-use Rattle.residual.specs.Arcs.{tails_of, lowers_of}
+use Rattle.std.proofs.Common.{◌+◌, true, arith}
+use Rattle.residual.specs.Residual.{tight}
 use Rattle.residual.specs.Graphs.{residual_on}
 use Rattle.residual.proofs.ArcLists.{cost_at, lower_at, ends_long}
-use Rattle.flow.specs.Solver.{Workable}
 use Rattle.flow.proofs.Settles.{workable_then, settled_join, settled_low, settled_frozen, settled_stuck, settled_round}
 use Rattle.flow.proofs.settle.settle_arc.Goals as goal
 

@@ -1,5 +1,5 @@
 -- `add_lowers`: the invariant is that the least on the arcs below a is added.
-use Rattle.std.proofs.Common.{◌≡◌, ◌<◌, true, length, get_or, arith}
+use Rattle.std.proofs.Common.{◌≡◌, ◌<◌, length, get_or, arith}
 use Rattle.std.proofs.lemmas.List.{length-map}
 use Rattle.residual.specs.declared.arcs.Arc.{Arc}
 use Rattle.residual.specs.Arcs.{ends_of, lowers_of}

@@ -17,8 +17,8 @@ loop-a-preserved c =
     let there : l.a < length l.capped = omega arith in (
       filled_more (λ u. get_or (lowers_of arcs) u 0) l.x l.a _ here l.invariant.0 (sym (lower_at arcs l.a)),
       below_more _ _
-      (λ u h. get_or-set_other l.capped l.a u _ no_arc (λ (e : u ≡ l.a). absurd (omega arith)) ∙ l.invariant.1 u h)
-      (get_or-set_same l.capped l.a _ no_arc there ∙ ap (λ (n : ℕ). record (get_or arcs l.a no_arc) { upper = n }) (omega arith)),
+          (λ u h. get_or-set_other l.capped l.a u _ no_arc (λ (e : u ≡ l.a). absurd (omega arith)) ∙ l.invariant.1 u h)
+          (get_or-set_same l.capped l.a _ no_arc there ∙ ap (λ (n : ℕ). record (get_or arcs l.a no_arc) { upper = n }) (omega arith)),
     )
 
 pub returns-clause-x_after : goal.returns-clause-x_after

@@ -1,5 +1,5 @@
 -- `gap`: the invariant is the gap over the arcs at the nodes below u.
-use Rattle.std.proofs.Common.{sym, arith, subst, ◌≡◌}
+use Rattle.std.proofs.Common.{arith, subst, ◌≡◌}
 use Rattle.residual.specs.Residual.{Shaped}
 use Rattle.residual.specs.Graphs.{lists_of}
 use Rattle.residual.proofs.Gaps.{below_more, below_all}

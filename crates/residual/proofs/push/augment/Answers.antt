@@ -1,5 +1,5 @@
 -- `augment`: the tree of a search leads down to its source.
-use Rattle.std.proofs.Common.{sym, ◌∙◌, arith, rules}
+use Rattle.std.proofs.Common.{sym, ◌∙◌}
 use Rattle.residual.specs.Graphs.{residual_on}
 use Rattle.residual.proofs.Walks.{walkable}
 use Rattle.residual.proofs.push.augment.Goals as goal
