@@ -1,10 +1,10 @@
 //! The best shape of a plate: the first of the cheapest flows, read as right bends and angles.
-ghost use Rattle.std.specs.Prelude.{◌≡◌, ℕ, ◌+◌, ◌%◌, ◌<◌, ◌≤◌, length, get_or, take};
-ghost use Rattle.finite.specs.Tables.{Table};
+ghost use Rattle.std.specs.Prelude.{◌≡◌, ℕ, ◌+◌, ◌%◌, ◌<◌, ◌≤◌, length, get_or, take, drop};
+ghost use Rattle.finite.specs.Tables.{Table, up_to};
 ghost use Rattle.embedding.specs.Read.{meant};
 ghost use Rattle.shapes.specs.Rates.{rates, Fair, pair_sums};
 ghost use Rattle.shapes.specs.Entries.{ByArc, ByNode};
-ghost use Rattle.shapes.specs.BestOf.{BestHeld, Answers, Paired, Small, Taken};
+ghost use Rattle.shapes.specs.BestOf.{BestHeld, Answers, Small, Taken};
 
 use crate::counts::{Counts, total_bends};
 use crate::network::{arc_count, lay_network, node_count};
@@ -13,12 +13,6 @@ use embedding::Plate;
 use flow::nodes::{Infeasible, Node};
 use flow::solve::solve;
 use residual::arcs::{Arc, NO_ARC};
-
-// What stands where no node is noted yet.
-const NO_NODE: Node = Node {
-    supply: 0,
-    demand: 0,
-};
 
 /// The right bends and the angle of each dart, and the sum of the right bends. Unused places are 0.
 #[derive(Clone, Copy)]
@@ -41,28 +35,28 @@ impl BestShape {
     }
 }
 
-// Numbers that fit a byte each.
-fn bytes_of(units: &[u16]) -> [u8; 256]
-    requires { (length units.now ≤ 256) × ((i : ℕ) → i < length units.now → get_or units.now i 0 < 256) }
-    ensures { Table 256 (λ i. get_or units.now i 0) result }
+// A byte for each of `n` places, where `at` gives a number that fits one.
+fn bytes_of<F: Fn(usize) -> u16>(n: usize, at: F) -> [u8; 256]
+    requires few { n ≤ 256 }
+    requires given { (i : ℕ) → i < n → F.pre at i }
+    requires fit { (i : ℕ) (r : _) → i < n → F.post at i r → r < 256 }
+    ensures { (g : ℕ → ℕ) → ((i : ℕ) (r : _) → i < n → F.post at i r → r ≡ g i) → Table 256 (up_to n g) result }
 {
     let mut bytes = [0u8; 256];
-    for (i, unit) in units.iter().enumerate() {
-        bytes[i] = *unit as u8;
+    for i in 0..n {
+        // With `as`: it is proved that each fits, and try_from would test it again.
+        bytes[i] = at(i) as u8;
     }
     bytes
 }
 
-// The two units of each corner together.
-fn corners_of(units: &[u16], darts: usize) -> [u8; 256]
-    requires { Paired darts units.now }
-    ensures { Table 256 (λ i. get_or (pair_sums units.now) i 0) result }
+// The two units of the corner of dart `d` together.
+fn corner_units(darts: usize, x: &[u16], d: usize) -> u16
+    requires { Small darts x.now × (d < darts) }
+    ensures { (result ≡ get_or (pair_sums (drop darts x.now)) d 0) × (result < 256) }
 {
-    let mut bytes = [0u8; 256];
-    for d in 0..darts {
-        bytes[d] = (units[d + d] + units[d + d + 1]) as u8;
-    }
-    bytes
+    let first = darts + d + d;
+    x[first] + x[first + 1]
 }
 
 // The units of the darts are right bends, those of the corners angles.
@@ -70,8 +64,8 @@ fn take_shape(darts: usize, x: &[u16]) -> BestShape
     requires { Small darts x.now }
     ensures { Taken darts x.now result }
 {
-    let rights = bytes_of(&x[..darts]);
-    let angles = corners_of(&x[darts..], darts);
+    let rights = bytes_of(darts, |d| x[d]);
+    let angles = bytes_of(darts, |d| corner_units(darts, x, d));
     let total = total_bends(&rights[..darts]);
     BestShape {
         angles,
@@ -106,7 +100,10 @@ pub fn best_by(q: Plate, by: StripRates) -> Option<BestShape>
     let by_arc = arc_count(&q);
     let by_node = node_count(&q);
     let mut arcs = [NO_ARC; 768];
-    let mut nodes = [NO_NODE; 130];
+    let mut nodes = [Node {
+        supply: 0,
+        demand: 0,
+    }; 130];
     let mut x = [0u16; 768];
     best_in(
         &q,

@@ -8,6 +8,7 @@ ghost use Rattle.shapes.specs.Shapes.{angles_ok, posts_ok, faces_ok, shape_of};
 ghost use Rattle.shapes.specs.Judge.{judgement, Keys, group_sum, post_angles, face_plus, face_minus, all_four, turns_ok, all_turn};
 
 use crate::counts::Counts;
+use crate::rates::all_from_one;
 use embedding::{Plate, twin_of};
 use refusals::Refusal;
 
@@ -22,7 +23,7 @@ pub fn key_of(keys: &[u8], n: usize, d: usize) -> usize
 fn angles_ok(s: &[u8]) -> bool
     ensures { result ≡ angles_ok s.now }
 {
-    s.iter().all(|a| 1 <= *a && *a <= 4)
+    all_from_one(s, 4)
 }
 
 // For each of `N` keys the sum over the darts that have it. `at` gives a dart's key and its number.
