@@ -42,11 +42,10 @@ fn show(
     requires { (length ends.now ≤ 256) × (length ends.now % 2 ≡ 0) × (length order.now ≤ 256) }
 {
     rt.write_all(label)?;
-    let r = read_plate(posts, ends, order, outer);
-    if r.number != 0 {
-        return println!(rt; " refused");
+    match read_plate(posts, ends, order, outer) {
+        Ok(q) => show_shape(rt, ends.len(), best(q)),
+        Err(_) => println!(rt; " refused"),
     }
-    show_shape(rt, ends.len(), best(r.plate))
 }
 
 // Writes a line: the label and the best shape within limits and by prices.
@@ -62,14 +61,13 @@ fn show_by(
     requires { (length ends.now ≤ 256) × (length ends.now % 2 ≡ 0) × (length order.now ≤ 256) }
 {
     rt.write_all(label)?;
-    let r = read_plate(posts, ends, order, outer);
-    if r.number != 0 {
+    let Ok(q) = read_plate(posts, ends, order, outer) else {
         return println!(rt; " refused");
-    }
+    };
     if !prices_ok(by.prices) {
         return println!(rt; " prices refused");
     }
-    match best_by(r.plate, by) {
+    match best_by(q, by) {
         Some(shape) => show_shape(rt, ends.len(), shape),
         None => println!(rt; " no shape"),
     }
@@ -121,17 +119,13 @@ fn more_rated_to_try(rt: &impl Print) -> io::Result<()> {
 // The verdict on a shape of P1 with these angles and right bends.
 fn verdict(rt: &impl Print, label: &[u8], angles: &[u8], rights: &[u8]) -> io::Result<()> {
     rt.write_all(label)?;
-    let r = read_plate(2, b"\x00\x01\x00\x01", b"\x00\x02\x01\x03", 1);
-    if r.number != 0 {
+    let Ok(q) = read_plate(2, b"\x00\x01\x00\x01", b"\x00\x02\x01\x03", 1) else {
+        return Ok(());
+    };
+    if angles.len() != q.darts || rights.len() != q.darts {
         return Ok(());
     }
-    if angles.len() != r.plate.darts {
-        return Ok(());
-    }
-    if rights.len() != r.plate.darts {
-        return Ok(());
-    }
-    match judge(r.plate, Counts { angles, rights }) {
+    match judge(q, Counts { angles, rights }) {
         Ok(()) => println!(rt; " 0"),
         Err(refusal) => println!(rt; " {}", refusal.number()),
     }

@@ -11,11 +11,11 @@ use lib.ListN.{length, get_or, get_or-eq_default}
 use Rattle.finite.proofs.Tables.{up_below, up_from}
 use Rattle.finite.proofs.Tests.{each_over}
 use Rattle.embedding.specs.Plates.{all_below, Plate, darts, twin, ends_at}
-use Rattle.embedding.specs.Read.{Stands, face_number}
+use Rattle.embedding.specs.Read.{meant, face_number}
 use Rattle.embedding.specs.declared.Plate.{Plate as Held}
-use Rattle.embedding.proofs.Rotation.{twin_dart, leaves_below}
+use Rattle.embedding.proofs.Rotation.{Ordered, twin_dart, leaves_below}
+use Rattle.embedding.proofs.Faultless.{Faultless}
 use Rattle.embedding.proofs.Degrees.{darts_most, darts_few}
-use Rattle.shapes.specs.Claims.{Accepted}
 use Rattle.shapes.specs.Judge.{Keys}
 use Rattle.shapes.specs.Counted.{Counted}
 use Rattle.shapes.proofs.Accepted.{faultless, ordered}
@@ -24,45 +24,54 @@ use Rattle.shapes.proofs.Places.{index_below}
 all-below : (n : ℕ) (xs : List ℕ) → ((i : ℕ) → i < length xs → get_or xs i 0 < n) → all_below n xs ≡ true
 all-below n xs h = each_over (all_below n) (λ x. ltb x n) refl (λ x xs. refl) xs (λ i l. lt-ltb (get_or xs i 0) n (h i l))
 
-module _ {q : Held} {p : Plate} (s : Stands q p) (a : Accepted p) where
-  pub few_posts : q.posts ≤ 64
-  few_posts = omega (arith, s.same_posts, (faultless p a).posts_most)
+module _ (q : Held) where
+  abbrev p : Plate
+  p = meant q
 
-  few_darts : darts p ≤ 256
-  few_darts = darts_few p (faultless p a) (ordered p a)
+  f : Faultless p
+  f = faultless p q.accepted
+
+  o : Ordered p
+  o = ordered p q.accepted
+
+  pub few_posts : q.posts ≤ 64
+  few_posts = omega (arith, q.stands.same_posts, f.posts_most)
+
+  pub few_darts : q.darts ≤ 256
+  few_darts = omega (arith, q.stands.dart_count, darts_few p f o)
 
   pub few_faces : q.faces ≤ 66
-  few_faces = omega (arith, s.face_count, (faultless p a).euler, (faultless p a).posts_most, darts_most p (faultless p a) (ordered p a))
+  few_faces = omega (arith, q.stands.face_count, f.euler, f.posts_most, darts_most p f o)
 
-  pub ends_are : (d : ℕ) → d < darts p → get_or q.ends (twin d) 0 ≡ ends_at p d
-  ends_are d l = s.strip_ends.at (twin d) (omega (arith, twin_dart p (ordered p a) d l, few_darts))
+  pub ends_are : (d : ℕ) → d < darts (meant q) → get_or q.ends (twin d) 0 ≡ ends_at (meant q) d
+  ends_are d l = q.stands.strip_ends.at (twin d) (omega (arith, twin_dart p o d l, few_darts, q.stands.dart_count))
 
-  pub faces_are : (d : ℕ) → d < darts p → get_or q.face d 0 ≡ face_number p d
-  faces_are d l = s.face_numbers.at d (omega (arith, few_darts)) ∙ up_below (darts p) (face_number p) d l
+  pub faces_are : (d : ℕ) → d < darts (meant q) → get_or q.face d 0 ≡ face_number (meant q) d
+  faces_are d l = q.stands.face_numbers.at d (omega (arith, few_darts, q.stands.dart_count)) ∙ up_below (darts p) (face_number p) d l
 
   pub ends_keys : Keys 64 q.ends
-  ends_keys = record { long = s.strip_ends.size; below = all-below 64 q.ends (λ i l. at i l (dec_lt i (darts p))) }
+  ends_keys = record { long = q.stands.strip_ends.size; below = all-below 64 q.ends (λ i l. at i l (dec_lt i (darts p))) }
     where
       at : (i : ℕ) → i < length q.ends → Dec (i < darts p) → get_or q.ends i 0 < 64
-      at i l (yes k) = omega (arith, s.strip_ends.at i (omega (arith, s.strip_ends.size)), leaves_below p (ordered p a) i k, (faultless p a).posts_most)
-      at i l (no k) = omega (arith, s.strip_ends.at i (omega (arith, s.strip_ends.size)), get_or-eq_default p.ends 0 {n = i} (omega arith))
+      at i l (yes k) = omega (arith, q.stands.strip_ends.at i (omega (arith, q.stands.strip_ends.size)), leaves_below p o i k, f.posts_most)
+      at i l (no k) = omega (arith, q.stands.strip_ends.at i (omega (arith, q.stands.strip_ends.size)), get_or-eq_default p.ends 0 {n = i} (omega arith))
 
   pub face_keys : Keys 66 q.face
-  face_keys = record { long = s.face_numbers.size; below = all-below 66 q.face (λ i l. at i l (dec_lt i (darts p))) }
+  face_keys = record { long = q.stands.face_numbers.size; below = all-below 66 q.face (λ i l. at i l (dec_lt i (darts p))) }
     where
       at : (i : ℕ) → i < length q.face → Dec (i < darts p) → get_or q.face i 0 < 66
-      at i l (yes k) = omega (arith, faces_are i k, index_below p (ordered p a) i k, s.face_count, few_faces)
-      at i l (no k) = omega (arith, s.face_numbers.at i (omega (arith, s.face_numbers.size)), up_from (darts p) (face_number p) i (omega arith))
+      at i l (yes k) = omega (arith, faces_are i k, index_below p o i k, q.stands.face_count, few_faces)
+      at i l (no k) = omega (arith, q.stands.face_numbers.at i (omega (arith, q.stands.face_numbers.size)), up_from (darts p) (face_number p) i (omega arith))
 
-  pub outer_below : q.outer < darts p
-  outer_below = omega (arith, s.outer_dart, (faultless p a).outer_dart)
+  pub outer_below : q.outer < darts (meant q)
+  outer_below = omega (arith, q.stands.outer_dart, f.outer_dart)
 
   pub outer_key : q.outer < length q.face
-  outer_key = omega (arith, outer_below, few_darts, s.face_numbers.size)
+  outer_key = omega (arith, outer_below, few_darts, q.stands.dart_count, q.stands.face_numbers.size)
 
   pub few_angles : (al : List ℕ) → length al ≡ q.darts → length al ≤ 256
-  few_angles al long = omega (arith, s.dart_count, few_darts)
+  few_angles al long = omega (arith, few_darts)
 
   pub counts_are : (al rs : List ℕ) → length al ≡ q.darts → length rs ≡ q.darts → Counted al rs
   counts_are al rs al_long rs-long =
-      record { same_length = omega arith; even_length = ap (λ (k : ℕ). k % 2) (al_long ∙ s.dart_count) ∙ a.even_darts; most = few_angles al al_long }
+      record { same_length = omega arith; even_length = ap (λ (k : ℕ). k % 2) (al_long ∙ q.stands.dart_count) ∙ q.accepted.even_darts; most = few_angles al al_long }

@@ -1,20 +1,19 @@
 -- The solver's answer for an accepted plate: a flow whose units as bytes are the best shape within the limits, or a cut, and no shape keeps them. It is held in one way only.
 use mathlib.Core.Path.{◌≡◌, refl, sym, ap, subst, ◌∙◌}
-use mathlib.Core.Bool.{Bool, true, false}
+use mathlib.Core.Bool.{true}
 use mathlib.Core.List.{List, []}
-use Prim.Native.Nat.{ℕ, ◌+◌, ◌≤◌, ◌<◌}
+use Prim.Native.Nat.{ℕ, ◌≤◌, ◌<◌}
 use native.Mathlib.Omega.{arith}
 use lib.ListN.{length, get_or, take, drop}
 use lib.Seq.{get_or-take}
 use Rattle.finite.specs.Tables.{Table}
 use Rattle.finite.proofs.Tables.{table_only}
-use Rattle.finite.proofs.Tests.{not_both}
-use Rattle.flow.specs.Network.{Network, Sound, Either, NoFlow, excess, Best as BestFlow}
+use Rattle.flow.specs.Network.{excess, Best as BestFlow}
 use Rattle.embedding.specs.Plates.{Plate, darts}
 use Rattle.embedding.proofs.Degrees.{darts_few}
 use Rattle.shapes.specs.Shapes.{Shape, meets, rights_of, total, shape_of}
 use Rattle.shapes.specs.Claims.{Accepted, Best}
-use Rattle.shapes.specs.Rates.{Rates, unrated, Fair, pair_sums, keeps, BestBy, NoShape}
+use Rattle.shapes.specs.Rates.{Rates, unrated, Fair, pair_sums, keeps, BestBy}
 use Rattle.shapes.specs.NetworkOf.{network_of, rated_of}
 use Rattle.shapes.specs.BestOf.{ShapeHeld, BestHeld, Answers, Small, Taken, right_bends, angles_held}
 use Rattle.shapes.specs.declared.best.BestShape.{BestShape}
@@ -29,22 +28,7 @@ use Rattle.shapes.proofs.Halves.{front_is}
 use Rattle.shapes.proofs.Bytes.{unit_most, total_fits}
 use Rattle.shapes.proofs.Unpriced.{by_best}
 use Rattle.shapes.proofs.OneBest.{one_best}
-use Rattle.shapes.proofs.Accepted.{faultless, ordered, sound_by, least_is_best, cut_no_shape}
-
-module _ (p : Plate) (a : Accepted p) (r : Rates) (fair : Fair r) where
-  pub laid_sound : {n : Network} → n ≡ rated_of p r → Sound n
-  laid_sound e = subst (λ (n : Network). Sound n) (sym e) (sound_by p a r fair)
-
-  pub laid_arcs : {n : Network} → n ≡ rated_of p r → length n.tails ≡ darts p + (darts p + darts p)
-  laid_arcs e = ap (λ (n : Network). length n.tails) e ∙ rated_arcs p r
-
-  pub solved : {n : Network} {x : List ℕ} → n ≡ rated_of p r → (b : Bool) → b ≡ true → Either b (BestFlow n x) (NoFlow n) → BestFlow (rated_of p r) x
-  solved {n} {x} e true t h = subst (λ (k : Network). BestFlow k x) e h
-  solved {n} {x} e false t h = absurd (not_both t refl)
-
-  pub unsolved : {n : Network} (x : List ℕ) → n ≡ rated_of p r → (b : Bool) → b ≡ false → Either b (BestFlow n x) (NoFlow n) → NoShape p r
-  unsolved {n} x e true t h = absurd (not_both refl t)
-  unsolved {n} x e false t h = cut_no_shape p a r fair (subst (λ (k : Network). NoFlow k) e h)
+use Rattle.shapes.proofs.Accepted.{faultless, ordered, least_is_best}
 
 module _ (p : Plate) (a : Accepted p) (r : Rates) (fair : Fair r) (x : List ℕ) (b : BestFlow (rated_of p r) x) where
   few : darts p ≤ 256

@@ -9,11 +9,11 @@ use lib.ListN.{length, get_or}
 use Rattle.finite.specs.Tables.{Table}
 use Rattle.finite.proofs.Tests.{same_test, eqb_turned, from_each, each_from, over_each, each_over}
 use Rattle.embedding.specs.Plates.{is_in, Plate, darts, twin, faces, face_of}
-use Rattle.embedding.specs.Read.{face_number, Stands}
+use Rattle.embedding.specs.Read.{meant, face_number}
 use Rattle.embedding.specs.declared.Plate.{Plate as Held}
 use Rattle.shapes.specs.Shapes.{angles_ok, angle_sum, posts_ok, plus_side, minus_side, face_ok, faces_ok, shape_of}
-use Rattle.shapes.specs.Claims.{Accepted}
 use Rattle.shapes.specs.Judge.{judgement, post_angles, face_plus, face_minus, all_four, turns_ok, all_turn}
+use Rattle.embedding.proofs.Rotation.{Ordered}
 use Rattle.shapes.proofs.Accepted.{ordered}
 use Rattle.shapes.proofs.HeldPlate.{few_posts, few_faces, ends_are, faces_are, outer_below}
 use Rattle.shapes.proofs.Places.{index_test}
@@ -52,30 +52,35 @@ turns p al ws ds outer plus minus h =
     here : ℕ → Bool
     here k = turns_ok (eqb k outer) (get_or plus k 0) (get_or minus k 0)
 
-module _ {q : Held} {p : Plate} (s : Stands q p) (a : Accepted p) (al : List ℕ) (al_long : length al ≡ q.darts) where
-  pub posts_tested : (sums : List ℕ) → Table 64 (post_angles q.ends al) sums → all_four q.posts 0 sums ≡ posts_ok p.posts 0 p al
+module _ (q : Held) (al : List ℕ) (al_long : length al ≡ q.darts) where
+  abbrev p : Plate
+  p = meant q
+
+  o : Ordered p
+  o = ordered p q.accepted
+
+  pub posts_tested : (sums : List ℕ) → Table 64 (post_angles q.ends al) sums → all_four q.posts 0 sums ≡ posts_ok (meant q).posts 0 (meant q) al
   posts_tested sums t =
-      ap (λ (n : ℕ). all_four n 0 sums) s.same_posts
+      ap (λ (n : ℕ). all_four n 0 sums) q.stands.same_posts
       ∙ fours p al sums p.posts 0
-      (λ v l. t.at v (omega (arith, few_posts s a, s.same_posts)) ∙ angle_group p al (length al) (al_long ∙ s.dart_count) (λ d. get_or q.ends (twin d) 0) (ends_are s a) v)
+      (λ v l. t.at v (omega (arith, few_posts q, q.stands.same_posts)) ∙ angle_group p al (length al) (al_long ∙ q.stands.dart_count) (λ d. get_or q.ends (twin d) 0) (ends_are q) v)
 
   module _ (rs : List ℕ) (rs-long : length rs ≡ q.darts) (plus minus : List ℕ) (outer : ℕ) (tp : Table 66 (face_plus q.face rs) plus) (tm : Table 66 (face_minus q.face al rs) minus)
       (out : outer ≡ get_or q.face q.outer 0) where
     outer_is : (i : ℕ) → i < length (faces p) → eqb i outer ≡ is_in p.outer (face_of p (get_or (faces p) i 0))
     outer_is i l =
-        let e : outer ≡ face_number p p.outer = out ∙ faces_are s a q.outer (outer_below s a) ∙ ap (face_number p) s.outer_dart in
-        eqb_turned i outer ∙ ap (λ (k : ℕ). eqb k i) e ∙ index_test p (ordered p a) p.outer (omega (arith, outer_below s a, s.outer_dart)) i l
+        let e : outer ≡ face_number p p.outer = out ∙ faces_are q q.outer (outer_below q) ∙ ap (face_number p) q.stands.outer_dart in
+        eqb_turned i outer ∙ ap (λ (k : ℕ). eqb k i) e ∙ index_test p o p.outer (omega (arith, outer_below q, q.stands.outer_dart)) i l
 
     face_tested : (i : ℕ) → i < length (faces p) → turns_ok (eqb i outer) (get_or plus i 0) (get_or minus i 0) ≡ face_ok p al (shape_of p al rs).words (get_or (faces p) i 0)
     face_tested i l =
-        let few : i < 66 = omega (arith, few_faces s a, s.face_count) in
-        let o = ordered p a in
-        let long : length rs ≡ darts p = rs-long ∙ s.dart_count in
+        let few : i < 66 = omega (arith, few_faces q, q.stands.face_count) in
+        let long : length rs ≡ darts p = rs-long ∙ q.stands.dart_count in
         let key : ℕ → ℕ = λ d. get_or q.face d 0 in
         let e = outer_is i l in
-        let f : get_or plus i 0 ≡ plus_side (face_of p (get_or (faces p) i 0)) (shape_of p al rs).words = tp.at i few ∙ plus_group p o rs long (length rs) long key (faces_are s a) i l in
-        let g : get_or minus i 0 ≡ minus_side (face_of p (get_or (faces p) i 0)) al (shape_of p al rs).words = tm.at i few ∙ minus_group p o rs long (length al) (al_long ∙ s.dart_count) key (faces_are s a) i l al in
+        let f : get_or plus i 0 ≡ plus_side (face_of p (get_or (faces p) i 0)) (shape_of p al rs).words = tp.at i few ∙ plus_group p o rs long (length rs) long key (faces_are q) i l in
+        let g : get_or minus i 0 ≡ minus_side (face_of p (get_or (faces p) i 0)) al (shape_of p al rs).words = tm.at i few ∙ minus_group p o rs long (length al) (al_long ∙ q.stands.dart_count) key (faces_are q) i l al in
         rw (e, f, g)
 
-    pub faces_tested : all_turn q.faces 0 outer plus minus ≡ faces_ok p al (shape_of p al rs).words (faces p)
-    faces_tested = ap (λ (n : ℕ). all_turn n 0 outer plus minus) s.face_count ∙ turns p al (shape_of p al rs).words (faces p) outer plus minus face_tested
+    pub faces_tested : all_turn q.faces 0 outer plus minus ≡ faces_ok (meant q) al (shape_of (meant q) al rs).words (faces (meant q))
+    faces_tested = ap (λ (n : ℕ). all_turn n 0 outer plus minus) q.stands.face_count ∙ turns p al (shape_of p al rs).words (faces p) outer plus minus face_tested

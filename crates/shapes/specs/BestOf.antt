@@ -36,12 +36,6 @@ abbrev pub Answers : Plate → Rates → Option BestShape → Type 0
 Answers p r (Some s) = ShapeHeld p (BestBy p r) s
 Answers p r None = NoShape p r
 
--- two numbers to a place, whose sum fits a byte
-pub record Paired (n : ℕ) (xs : List ℕ) : Type 0 where
-  pub few : n ≤ 256
-  pub long : length xs ≡ n + n
-  pub fit : (d : ℕ) → d < n → get_or (pair_sums xs) d 0 < 256
-
 -- units of the darts, then of the corners, two to each: a byte for each dart and each corner, two for the sum of the first
 pub record Small (darts : ℕ) (x : List ℕ) : Type 0 where
   pub darts_most : darts ≤ 256

@@ -1,8 +1,10 @@
--- The network's lists by dart, corner and node, from what a held plate has: the posts, the darts, the strip ends, each dart's face, each face's size.
-use Rattle.std.specs.Prelude.{◌≡◌, Bool, true, false, List, ℕ, ◌+◌, ◌-◌, ◌*◌, ◌%◌, ◌≤◌, ◌<◌, eqb, ltb, length, get_or}
+-- The network's arcs and nodes from what a held plate has: the posts, the darts, the strip ends, each dart's face, each face's size.
+use Rattle.std.specs.Prelude.{◌≡◌, Bool, List, ℕ, ◌+◌, ◌-◌, ◌*◌, ◌<◌, eqb, ltb, length, get_or}
 use Rattle.embedding.specs.Plates.{pick, twin}
 use Rattle.embedding.specs.declared.Plate.{Plate as Held}
-use Rattle.shapes.specs.Judge.{Keys}
+use Rattle.residual.specs.declared.arcs.Arc.{Arc}
+use Rattle.flow.specs.declared.nodes.Node.{Node}
+use Rattle.shapes.specs.Rates.{Rates}
 use Rattle.shapes.specs.NetworkOf.{bend_most, bend_cost}
 
 -- the node of the face of dart d
@@ -20,6 +22,10 @@ joint_at ends degrees d = eqb (get_or degrees (post_at ends d) 0) 2
 abbrev pub corner_most : Bool → Bool → ℕ
 corner_most joint first = pick first (pick joint 2 4) (pick joint 1 0)
 
+-- the outer face's node
+abbrev pub outer_node : Held → ℕ
+outer_node q = node_at q.posts q.face q.outer
+
 -- what node v supplies and demands; `outer` is the outer face's node
 abbrev pub supply_at : ℕ → ℕ → ℕ
 supply_at outer v = pick (eqb v outer) 0 4
@@ -27,63 +33,40 @@ supply_at outer v = pick (eqb v outer) 0 4
 abbrev pub demand_at : ℕ → List ℕ → ℕ → ℕ → ℕ
 demand_at posts sizes outer v = pick (ltb v posts) 0 (2 * get_or sizes (v - posts) 0 + pick (eqb v outer) 4 0)
 
--- each dart's face, as bytes
-pub record Faced (posts darts : ℕ) (face : List ℕ) : Type 0 where
-  pub posts_most : posts ≤ 64
-  pub darts_most : darts ≤ 256
-  pub even : darts % 2 ≡ 0
-  pub face_long : length face ≡ 256
-  pub small : (d : ℕ) → d < darts → get_or face d 0 < 66
+-- the arc of dart d, from its face to its twin's
+abbrev pub bend_arc : Held → Rates → ℕ → Arc
+bend_arc q r d = record { tail = node_at q.posts q.face d; head = node_at q.posts q.face (twin d); lower = 0; upper = bend_most r.limits d; cost = bend_cost r.prices d }
 
--- each dart's post, and how many strip ends each post has
-pub record Jointed (darts : ℕ) (ends degrees : List ℕ) : Type 0 where
-  pub darts_most : darts ≤ 256
-  pub keyed : Keys 64 ends
-  pub degrees_long : length degrees ≡ 64
+-- the first or the second arc of its corner, from the post to the dart's face
+abbrev pub corner_arc : Held → Bool → ℕ → Arc
+corner_arc q first d = record { tail = post_at q.ends d; head = node_at q.posts q.face d; lower = pick first 1 0; upper = corner_most (joint_at q.ends q.degrees d) first; cost = pick first 0 65536 }
 
--- the size of each face
-pub record Sized (sizes : List ℕ) : Type 0 where
-  pub sizes_long : length sizes ≡ 66
-  pub small : (i : ℕ) → i < 66 → get_or sizes i 0 ≤ 256
+-- node v
+abbrev pub node : Held → ℕ → Node
+node q v = record { supply = supply_at (outer_node q) v; demand = demand_at q.posts q.sizes (outer_node q) v }
 
--- a list of n numbers, those below k given by f
-pub record Begun (n : ℕ) (f : ℕ → ℕ) (k : ℕ) (xs : List ℕ) : Type 0 where
+-- what stands for an arc or a node that is not there
+abbrev pub no_arc : Arc
+no_arc = record { tail = 0; head = 0; lower = 0; upper = 0; cost = 0 }
+
+abbrev pub no_node : Node
+no_node = record { supply = 0; demand = 0 }
+
+-- a list of n elements, those below k given by f
+pub record Begun {A : Type 0} (none : A) (n : ℕ) (f : ℕ → A) (k : ℕ) (xs : List A) : Type 0 where
   pub size : length xs ≡ n
-  pub below : (i : ℕ) → i < k → get_or xs i 0 ≡ f i
+  pub below : (i : ℕ) → i < k → get_or xs i none ≡ f i
 
--- a list by arc of m darts: the darts' arcs as in ys, the two of each corner below k given by g and h
-pub record CornersLaid (m : ℕ) (g h : ℕ → ℕ) (k : ℕ) (ys xs : List ℕ) : Type 0 where
+-- a list of the arcs of m darts: the darts' arcs as in ys, the two of each corner below k given by g and h
+pub record CornersLaid (m : ℕ) (g h : ℕ → Arc) (k : ℕ) (ys xs : List Arc) : Type 0 where
   pub size : length xs ≡ length ys
-  pub bend : (d : ℕ) → d < m → get_or xs d 0 ≡ get_or ys d 0
-  pub first : (d : ℕ) → d < k → get_or xs (m + d + d) 0 ≡ g d
-  pub second : (d : ℕ) → d < k → get_or xs (m + d + d + 1) 0 ≡ h d
+  pub bend : (d : ℕ) → d < m → get_or xs d no_arc ≡ get_or ys d no_arc
+  pub first : (d : ℕ) → d < k → get_or xs (m + d + d) no_arc ≡ g d
+  pub second : (d : ℕ) → d < k → get_or xs (m + d + d + 1) no_arc ≡ h d
 
--- the arcs of the darts below k: from a dart's face to its twin's; how many units, and what one costs
-pub record BendEnds (posts darts : ℕ) (face : List ℕ) (k : ℕ) (tails heads : List ℕ) : Type 0 where
-  pub tails_begun : Begun (darts + (darts + darts)) (λ d. node_at posts face d) k tails
-  pub heads_begun : Begun (darts + (darts + darts)) (λ d. node_at posts face (twin d)) k heads
+-- a list as long as the arcs of a held plate, and one as long as its nodes
+abbrev pub ByArc : {A : Type 0} → Held → List A → Type 0
+ByArc q xs = length xs ≡ q.darts + (q.darts + q.darts)
 
-pub record BendRates (darts : ℕ) (limits prices : List ℕ) (k : ℕ) (lowers uppers costs : List ℕ) : Type 0 where
-  pub lowers_begun : Begun (darts + (darts + darts)) (λ d. 0) k lowers
-  pub uppers_begun : Begun (darts + (darts + darts)) (λ d. bend_most limits d) k uppers
-  pub costs_begun : Begun (darts + (darts + darts)) (λ d. bend_cost prices d) k costs
-
--- the arcs of the corners below k: from the post to the dart's face; how many units, and what one costs
-pub record CornerEnds (posts darts : ℕ) (ends face : List ℕ) (k : ℕ) (tails heads tails' heads' : List ℕ) : Type 0 where
-  pub tails_laid : CornersLaid darts (λ d. post_at ends d) (λ d. post_at ends d) k tails tails'
-  pub heads_laid : CornersLaid darts (λ d. node_at posts face d) (λ d. node_at posts face d) k heads heads'
-
-pub record CornerRates (darts : ℕ) (ends degrees : List ℕ) (k : ℕ) (lowers uppers costs lowers' uppers' costs' : List ℕ) : Type 0 where
-  pub lowers_laid : CornersLaid darts (λ d. 1) (λ d. 0) k lowers lowers'
-  pub uppers_laid : CornersLaid darts (λ d. corner_most (joint_at ends degrees d) true) (λ d. corner_most (joint_at ends degrees d) false) k uppers uppers'
-  pub costs_laid : CornersLaid darts (λ d. 0) (λ d. 65536) k costs costs'
-
--- lists as long as the arcs and the nodes of a held plate
-pub record Lent (q : Held) (tails heads lowers uppers costs supplies demands : List ℕ) : Type 0 where
-  pub tails_long : length tails ≡ q.darts + (q.darts + q.darts)
-  pub heads_long : length heads ≡ q.darts + (q.darts + q.darts)
-  pub lowers_long : length lowers ≡ q.darts + (q.darts + q.darts)
-  pub uppers_long : length uppers ≡ q.darts + (q.darts + q.darts)
-  pub costs_long : length costs ≡ q.darts + (q.darts + q.darts)
-  pub supplies_long : length supplies ≡ q.posts + q.faces
-  pub demands_long : length demands ≡ q.posts + q.faces
+abbrev pub ByNode : {A : Type 0} → Held → List A → Type 0
+ByNode q xs = length xs ≡ q.posts + q.faces

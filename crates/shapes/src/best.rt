@@ -1,18 +1,18 @@
 //! The best shape of a plate: the first of the cheapest flows, read as right bends and angles.
-ghost use Rattle.std.specs.Prelude.{◌≡◌, ℕ, ◌+◌, ◌%◌, ◌<◌, ◌≤◌, length, get_or, take};
-ghost use Rattle.finite.specs.Tables.{Table};
-ghost use Rattle.embedding.specs.Plates.{Plate as PlateOf};
-ghost use Rattle.embedding.specs.Read.{Stands};
-ghost use Rattle.shapes.specs.Claims.{Standing, Accepted};
+ghost use Rattle.std.specs.Prelude.{◌≡◌, ℕ, ◌+◌, ◌%◌, ◌<◌, ◌≤◌, length, get_or, take, drop};
+ghost use Rattle.finite.specs.Tables.{Table, up_to};
+ghost use Rattle.embedding.specs.Read.{meant};
 ghost use Rattle.shapes.specs.Rates.{rates, Fair, pair_sums};
-ghost use Rattle.shapes.specs.Entries.{Lent};
-ghost use Rattle.shapes.specs.BestOf.{BestHeld, Answers, Paired, Small, Taken};
+ghost use Rattle.shapes.specs.Entries.{ByArc, ByNode};
+ghost use Rattle.shapes.specs.BestOf.{BestHeld, Answers, Small, Taken};
 
 use crate::counts::{Counts, total_bends};
-use crate::network::lay_network;
+use crate::network::{arc_count, lay_network, node_count};
 use crate::rates::StripRates;
 use embedding::Plate;
+use flow::nodes::{Infeasible, Node};
 use flow::solve::solve;
+use residual::arcs::{Arc, NO_ARC};
 
 /// The right bends and the angle of each dart, and the sum of the right bends. Unused places are 0.
 #[derive(Clone, Copy)]
@@ -35,28 +35,28 @@ impl BestShape {
     }
 }
 
-// Numbers that fit a byte each.
-fn bytes_of(units: &[u16]) -> [u8; 256]
-    requires { (length units.now ≤ 256) × ((i : ℕ) → i < length units.now → get_or units.now i 0 < 256) }
-    ensures { Table 256 (λ i. get_or units.now i 0) result }
+// A byte for each of `n` places, where `at` gives a number that fits one.
+fn bytes_of<F: Fn(usize) -> u16>(n: usize, at: F) -> [u8; 256]
+    requires few { n ≤ 256 }
+    requires given { (i : ℕ) → i < n → F.pre at i }
+    requires fit { (i : ℕ) (r : _) → i < n → F.post at i r → r < 256 }
+    ensures { (g : ℕ → ℕ) → ((i : ℕ) (r : _) → i < n → F.post at i r → r ≡ g i) → Table 256 (up_to n g) result }
 {
     let mut bytes = [0u8; 256];
-    for (i, unit) in units.iter().enumerate() {
-        bytes[i] = *unit as u8;
+    for i in 0..n {
+        // With `as`: it is proved that each fits, and try_from would test it again.
+        bytes[i] = at(i) as u8;
     }
     bytes
 }
 
-// The two units of each corner together.
-fn corners_of(units: &[u16], darts: usize) -> [u8; 256]
-    requires { Paired darts units.now }
-    ensures { Table 256 (λ i. get_or (pair_sums units.now) i 0) result }
+// The two units of the corner of dart `d` together.
+fn corner_units(darts: usize, x: &[u16], d: usize) -> u16
+    requires { Small darts x.now × (d < darts) }
+    ensures { (result ≡ get_or (pair_sums (drop darts x.now)) d 0) × (result < 256) }
 {
-    let mut bytes = [0u8; 256];
-    for d in 0..darts {
-        bytes[d] = (units[d + d] + units[d + d + 1]) as u8;
-    }
-    bytes
+    let first = darts + d + d;
+    x[first] + x[first + 1]
 }
 
 // The units of the darts are right bends, those of the corners angles.
@@ -64,8 +64,8 @@ fn take_shape(darts: usize, x: &[u16]) -> BestShape
     requires { Small darts x.now }
     ensures { Taken darts x.now result }
 {
-    let rights = bytes_of(&x[..darts]);
-    let angles = corners_of(&x[darts..], darts);
+    let rights = bytes_of(darts, |d| x[d]);
+    let angles = bytes_of(darts, |d| corner_units(darts, x, d));
     let total = total_bends(&rights[..darts]);
     BestShape {
         angles,
@@ -74,65 +74,49 @@ fn take_shape(darts: usize, x: &[u16]) -> BestShape
     }
 }
 
-// The answer, in lent space: lists by arc and by node.
+// The answer, in lent space.
 fn best_in(
-    q: Plate,
+    q: &Plate,
     by: StripRates,
-    tails: &mut [u8],
-    heads: &mut [u8],
-    lowers: &mut [u16],
-    uppers: &mut [u16],
-    costs: &mut [u64],
-    supplies: &mut [u16],
-    demands: &mut [u16],
+    arcs: &mut [Arc],
+    nodes: &mut [Node],
     x: &mut [u16],
 ) -> Option<BestShape>
-    requires { Standing q × Fair (rates by.limits.now by.prices.now) × Lent q tails.old heads.old lowers.old uppers.old costs.old supplies.old demands.old × (length x.old ≡ q.darts + (q.darts + q.darts)) }
-    ensures { (p : PlateOf) → Stands q p → Accepted p → Answers p (rates by.entry.limits.now by.entry.prices.now) result }
+    requires { Fair (rates by.limits.now by.prices.now) × ByArc q.now arcs.old × ByNode q.now nodes.old × ByArc q.now x.old }
+    ensures { Answers (meant q.now) (rates by.entry.limits.now by.entry.prices.now) result }
 {
-    let darts = q.darts;
-    lay_network(
-        q, by, tails, heads, lowers, uppers, costs, supplies, demands,
-    );
-    if !solve(tails, heads, lowers, uppers, costs, supplies, demands, x) {
-        return None;
+    lay_network(q, by, arcs, nodes);
+    match solve(arcs, nodes, x) {
+        Ok(()) => Some(take_shape(q.darts, x)),
+        Err(Infeasible) => None,
     }
-    Some(take_shape(darts, x))
 }
 
 /// The best shape of an accepted plate within limits, by prices of bends, if some shape keeps the limits.
 pub fn best_by(q: Plate, by: StripRates) -> Option<BestShape>
-    requires { Standing q × Fair (rates by.limits.now by.prices.now) }
-    ensures { (p : PlateOf) → Stands q p → Accepted p → Answers p (rates by.entry.limits.now by.entry.prices.now) result }
+    requires { Fair (rates by.limits.now by.prices.now) }
+    ensures { Answers (meant q) (rates by.entry.limits.now by.entry.prices.now) result }
 {
-    let arcs = q.darts + (q.darts + q.darts);
-    let nodes = q.posts + q.faces;
-    let mut tails = [0u8; 768];
-    let mut heads = [0u8; 768];
-    let mut lowers = [0u16; 768];
-    let mut uppers = [0u16; 768];
-    let mut costs = [0u64; 768];
-    let mut supplies = [0u16; 130];
-    let mut demands = [0u16; 130];
+    let by_arc = arc_count(&q);
+    let by_node = node_count(&q);
+    let mut arcs = [NO_ARC; 768];
+    let mut nodes = [Node {
+        supply: 0,
+        demand: 0,
+    }; 130];
     let mut x = [0u16; 768];
     best_in(
-        q,
+        &q,
         by,
-        &mut tails[..arcs],
-        &mut heads[..arcs],
-        &mut lowers[..arcs],
-        &mut uppers[..arcs],
-        &mut costs[..arcs],
-        &mut supplies[..nodes],
-        &mut demands[..nodes],
-        &mut x[..arcs],
+        &mut arcs[..by_arc],
+        &mut nodes[..by_node],
+        &mut x[..by_arc],
     )
 }
 
 /// The best shape of an accepted plate: no limits, and each bend costs 1.
 pub fn best(q: Plate) -> BestShape
-    requires { Standing q }
-    ensures { (p : PlateOf) → Stands q p → Accepted p → BestHeld p result }
+    ensures { BestHeld (meant q) result }
 {
     best_by(
         q,

@@ -1,14 +1,14 @@
 //! The verdict on a shape given as counts: refusals 19, 20 and 21.
 ghost use Rattle.std.specs.Prelude.{◌≡◌, ℕ, true, ◌≤◌, ◌<◌, length, get_or};
 ghost use Rattle.finite.specs.Tables.{Table};
-ghost use Rattle.embedding.specs.Plates.{Plate as PlateOf, all_below, faces};
-ghost use Rattle.embedding.specs.Read.{Stands};
+ghost use Rattle.embedding.specs.Plates.{all_below, faces};
+ghost use Rattle.embedding.specs.Read.{meant};
 ghost use Rattle.refusals.specs.Numbers.{fault_of};
 ghost use Rattle.shapes.specs.Shapes.{angles_ok, posts_ok, faces_ok, shape_of};
-ghost use Rattle.shapes.specs.Claims.{Standing, Accepted};
 ghost use Rattle.shapes.specs.Judge.{judgement, Keys, group_sum, post_angles, face_plus, face_minus, all_four, turns_ok, all_turn};
 
 use crate::counts::Counts;
+use crate::rates::all_from_one;
 use embedding::{Plate, twin_of};
 use refusals::Refusal;
 
@@ -23,7 +23,7 @@ pub fn key_of(keys: &[u8], n: usize, d: usize) -> usize
 fn angles_ok(s: &[u8]) -> bool
     ensures { result ≡ angles_ok s.now }
 {
-    s.iter().all(|a| 1 <= *a && *a <= 4)
+    all_from_one(s, 4)
 }
 
 // For each of `N` keys the sum over the darts that have it. `at` gives a dart's key and its number.
@@ -105,29 +105,27 @@ fn all_turn(plus: [u32; 66], minus: [u32; 66], n: usize, outer: usize) -> bool
 
 // The angles at each post add to 4.
 fn posts_ok(q: Plate, angles: &[u8]) -> bool
-    requires { (length angles.now ≡ q.darts) × Standing q }
-    ensures { (p : PlateOf) → Stands q p → Accepted p → result ≡ posts_ok p.posts 0 p angles.now }
+    requires { length angles.now ≡ q.darts }
+    ensures { result ≡ posts_ok (meant q).posts 0 (meant q) angles.now }
 {
-    let ends = q.ends;
-    all_four(post_angles(&ends, angles), q.posts)
+    all_four(post_angles(&q.ends, angles), q.posts)
 }
 
 // The turns of each face add to what they should.
 fn faces_ok(q: Plate, counts: Counts) -> bool
-    requires { (length counts.angles.now ≡ q.darts) × Standing q }
-    ensures { (p : PlateOf) → Stands q p → Accepted p → result ≡ faces_ok p counts.entry.angles.now (shape_of p counts.entry.angles.now counts.entry.rights.now).words (faces p) }
+    requires { length counts.angles.now ≡ q.darts }
+    ensures { result ≡ faces_ok (meant q) counts.entry.angles.now (shape_of (meant q) counts.entry.angles.now counts.entry.rights.now).words (faces (meant q)) }
 {
-    let face = q.face;
-    let plus = face_plus(&face, counts.rights);
-    let minus = face_minus(&face, counts);
-    let outer = key_of(&face, 66, usize::from(q.outer));
+    let plus = face_plus(&q.face, counts.rights);
+    let minus = face_minus(&q.face, counts);
+    let outer = key_of(&q.face, 66, usize::from(q.outer));
     all_turn(plus, minus, q.faces, outer)
 }
 
 /// The first condition that the shape of these counts does not meet: angles from 1 to 4, angles at each post, turns of each face.
 pub fn judge(q: Plate, counts: Counts) -> Result<(), Refusal>
-    requires { (length counts.angles.now ≡ q.darts) × Standing q }
-    ensures { (p : PlateOf) → Stands q p → Accepted p → fault_of result ≡ judgement p counts.entry.angles.now counts.entry.rights.now }
+    requires { length counts.angles.now ≡ q.darts }
+    ensures { fault_of result ≡ judgement (meant q) counts.entry.angles.now counts.entry.rights.now }
 {
     if !angles_ok(counts.angles) {
         return Err(Refusal::AngleRange);

@@ -1,17 +1,40 @@
-//! The flow network of a plate, as lists in lent space.
-ghost use Rattle.std.specs.Prelude.{◌≡◌, ◌+◌, ◌/◌, ◌<◌, ◌≤◌, length, get_or};
-ghost use Rattle.finite.specs.Tables.{Table};
-ghost use Rattle.flow.specs.Network.{network};
-ghost use Rattle.embedding.specs.Plates.{Plate as PlateOf};
-ghost use Rattle.embedding.specs.Read.{Stands};
-ghost use Rattle.shapes.specs.Claims.{Standing, Accepted};
+//! The flow network of a plate, as arcs and nodes in lent space.
+ghost use Rattle.std.specs.Prelude.{◌≡◌, true, false, ◌+◌, ◌<◌, ◌≤◌, length};
+ghost use Rattle.flow.specs.Nodes.{network_from};
+ghost use Rattle.embedding.specs.Read.{meant};
 ghost use Rattle.shapes.specs.Rates.{rates};
 ghost use Rattle.shapes.specs.NetworkOf.{bend_most, rated_of};
-ghost use Rattle.shapes.specs.Entries.{node_at, joint_at, corner_most, supply_at, demand_at, Faced, Jointed, Sized, BendEnds, BendRates, CornerEnds, CornerRates, Lent};
+ghost use Rattle.shapes.specs.Entries.{node_at, outer_node, joint_at, supply_at, demand_at, bend_arc, corner_arc, node, no_arc, no_node, Begun, CornersLaid, ByArc, ByNode};
 
-use crate::judge::key_of;
 use crate::rates::{StripRates, given_or};
 use embedding::{Plate, twin_of};
+use flow::nodes::Node;
+use residual::arcs::Arc;
+
+// How many arcs the network has.
+pub fn arc_count(q: &Plate) -> usize
+    ensures { (result ≡ q.now.darts + (q.now.darts + q.now.darts)) × (result ≤ 768) }
+{
+    q.darts + (q.darts + q.darts)
+}
+
+// How many nodes it has.
+#[tactic(auto, using(crate::proofs::HeldPlate::few_posts, crate::proofs::HeldPlate::few_faces))]
+pub fn node_count(q: &Plate) -> usize
+    ensures { (result ≡ q.now.posts + q.now.faces) × (result ≤ 130) }
+{
+    q.posts + q.faces
+}
+
+// The node of the face of dart `d`.
+#[tactic(auto, using(crate::proofs::HeldPlate::few_posts, crate::proofs::Laid::held_face))]
+fn face_node(q: &Plate, d: usize) -> u8
+    requires { d < q.now.darts }
+    ensures { result ≡ node_at q.now.posts q.now.face d }
+{
+    // With `as`: a plate keeps 64 posts at most, and try_from would test it again.
+    q.posts as u8 + q.face[d]
+}
 
 // The most units across the strip of dart `d`: its limit, 255 being none.
 fn bend_most(limits: &[u8], d: usize) -> u16
@@ -23,211 +46,114 @@ fn bend_most(limits: &[u8], d: usize) -> u16
     }
 }
 
-// The most units on an arc of a corner: two and one where a third makes a cornered post, else all on the first.
-fn corner_most(joint: bool, first: bool) -> u16
-    ensures { result ≡ corner_most joint first }
+// The arc of dart `d`, from its face to its twin's: a unit is a bend.
+fn bend_arc(q: &Plate, by: StripRates, d: usize) -> Arc
+    requires { d < q.now.darts }
+    ensures { result ≡ bend_arc q.now (rates by.entry.limits.now by.entry.prices.now) d }
 {
-    match (joint, first) {
-        (true, true) => 2,
-        (true, false) => 1,
-        (false, true) => 4,
-        (false, false) => 0,
+    Arc {
+        tail: face_node(q, d),
+        head: face_node(q, twin_of(d)),
+        lower: 0,
+        upper: bend_most(by.limits, d),
+        cost: u64::from(given_or(by.prices, 1, d / 2)) * 4294967296 + 1,
     }
 }
 
-// The bounds and costs of the darts' arcs: a unit is a bend.
-fn fill_bend_rates(
-    darts: usize,
-    by: StripRates,
-    lowers: &mut [u16],
-    uppers: &mut [u16],
-    costs: &mut [u64],
-)
-    requires { (length lowers.old ≡ darts + (darts + darts)) × (length uppers.old ≡ darts + (darts + darts)) × (length costs.old ≡ darts + (darts + darts)) }
-    ensures { BendRates darts by.entry.limits.now by.entry.prices.now darts lowers.new uppers.new costs.new }
+// Does dart `d` end at a post with exactly two strip ends?
+#[tactic(auto, using(crate::proofs::Laid::joint_below))]
+fn is_joint(q: &Plate, d: usize) -> bool
+    requires { d < q.now.darts }
+    ensures { result ≡ joint_at q.now.ends q.now.degrees d }
 {
-    for d in 0..darts {
-        lowers[d] = 0;
-        uppers[d] = bend_most(by.limits, d);
-        costs[d] = u64::from(given_or(by.prices, 1, d / 2)) * 4294967296 + 1;
-    }
+    q.degrees[usize::from(q.ends[twin_of(d)])] == 2
 }
 
-// The same by two loops, of which the one without limits asks for none; most lists have none.
-fn lay_bend_rates(
-    darts: usize,
-    by: StripRates,
-    lowers: &mut [u16],
-    uppers: &mut [u16],
-    costs: &mut [u64],
-)
-    requires { (length lowers.old ≡ darts + (darts + darts)) × (length uppers.old ≡ darts + (darts + darts)) × (length costs.old ≡ darts + (darts + darts)) }
-    ensures { BendRates darts by.entry.limits.now by.entry.prices.now darts lowers.new uppers.new costs.new }
+// The two arcs of the corner of dart `d`, from the post to the dart's face: at least one unit on the first, and at a joint on the second the unit that makes a cornered post.
+fn corner_arcs(q: &Plate, d: usize) -> (Arc, Arc)
+    requires { d < q.now.darts }
+    ensures { (result.0 ≡ corner_arc q.now true d) × (result.1 ≡ corner_arc q.now false d) }
 {
-    if by.limits.is_empty() {
-        let none = StripRates { limits: b"", ..by };
-        fill_bend_rates(darts, none, lowers, uppers, costs);
-    } else {
-        fill_bend_rates(darts, by, lowers, uppers, costs);
+    let (most, more) = if is_joint(q, d) { (2, 1) } else { (4, 0) };
+    let first = Arc {
+        tail: q.ends[twin_of(d)],
+        head: face_node(q, d),
+        lower: 1,
+        upper: most,
+        cost: 0,
+    };
+    (
+        first,
+        Arc {
+            lower: 0,
+            upper: more,
+            cost: 65536,
+            ..first
+        },
+    )
+}
+
+// What node `v` supplies: the outer face nothing.
+fn supply_of(outer: usize, v: usize) -> u16
+    ensures { result ≡ supply_at outer v }
+{
+    if v == outer { 0 } else { 4 }
+}
+
+// What node `v` demands: a face two for each dart, the outer four more.
+fn demand_of(q: &Plate, outer: usize, v: usize) -> u16
+    requires { v < q.now.posts + q.now.faces }
+    ensures { result ≡ demand_at q.now.posts q.now.sizes outer v }
+{
+    if v < q.posts {
+        return 0;
+    }
+    let corners = 2 * q.sizes[v - q.posts];
+    if v == outer { corners + 4 } else { corners }
+}
+
+// The arcs of the darts.
+fn lay_bends(q: &Plate, by: StripRates, arcs: &mut [Arc])
+    requires { ByArc q.now arcs.old }
+    ensures { Begun no_arc (length arcs.old) (bend_arc q.now (rates by.entry.limits.now by.entry.prices.now)) q.now.darts arcs.new }
+{
+    for d in 0..q.darts {
+        arcs[d] = bend_arc(q, by, d);
     }
 }
 
-// A held plate as the network's lists read it: the post and the face of each dart, the strip ends of each post, the size of each face, and the outer face's node.
-#[derive(Clone, Copy)]
-struct Layout<'a> {
-    posts: usize,
-    darts: usize,
-    ends: &'a [u8],
-    degrees: &'a [u8],
-    face: &'a [u8],
-    sizes: &'a [u16],
-    outer: usize,
-    ghost faced: { Faced posts darts face.now },
-    ghost jointed: { Jointed darts ends.now degrees.now },
-    ghost sized: { Sized sizes.now },
+// The arcs of the corners, two to each.
+fn lay_corners(q: &Plate, arcs: &mut [Arc])
+    requires { ByArc q.now arcs.old }
+    ensures { CornersLaid q.now.darts (corner_arc q.now true) (corner_arc q.now false) q.now.darts arcs.old arcs.new }
+{
+    for d in 0..q.darts {
+        let first = q.darts + d + d;
+        let (low, high) = corner_arcs(q, d);
+        arcs[first] = low;
+        arcs[first + 1] = high;
+    }
 }
 
-impl Layout<'_> {
-    // The node of the face of dart `d`.
-    fn node_of(&self, d: usize) -> u8
-        requires { d < self.now.darts }
-        ensures { result ≡ node_at self.now.posts self.now.face.now d }
-    {
-        self.posts as u8 + self.face[d]
-    }
-
-    // Does dart `d` end at a post with exactly two strip ends?
-    fn is_joint(&self, d: usize) -> bool
-        requires { d < self.now.darts }
-        ensures { result ≡ joint_at self.now.ends.now self.now.degrees.now d }
-    {
-        self.degrees[key_of(self.ends, 64, twin_of(d))] == 2
-    }
-
-    // What node `v` supplies: the outer face nothing.
-    fn supply_of(&self, v: usize) -> u16
-        ensures { result ≡ supply_at self.now.outer v }
-    {
-        if v == self.outer { 0 } else { 4 }
-    }
-
-    // What node `v` demands: a face two for each dart, the outer four more.
-    fn demand_of(&self, v: usize) -> u16
-        requires { v < self.now.posts + 66 }
-        ensures { result ≡ demand_at self.now.posts self.now.sizes.now self.now.outer v }
-    {
-        if v < self.posts {
-            return 0;
-        }
-        let corners = 2 * self.sizes[v - self.posts];
-        if v == self.outer {
-            corners + 4
-        } else {
-            corners
-        }
-    }
-
-    // The arcs of the darts: from a dart's face to its twin's.
-    fn fill_bend_ends(&self, tails: &mut [u8], heads: &mut [u8])
-        requires { (length tails.old ≡ self.now.darts + (self.now.darts + self.now.darts)) × (length heads.old ≡ self.now.darts + (self.now.darts + self.now.darts)) }
-        ensures { BendEnds self.now.posts self.now.darts self.now.face.now self.now.darts tails.new heads.new }
-    {
-        for d in 0..self.darts {
-            tails[d] = self.node_of(d);
-            heads[d] = self.node_of(twin_of(d));
-        }
-    }
-
-    // The arcs of the corners, two to each: from the post to the dart's face.
-    fn fill_corner_ends(&self, tails: &mut [u8], heads: &mut [u8])
-        requires { (length tails.old ≡ self.now.darts + (self.now.darts + self.now.darts)) × (length heads.old ≡ self.now.darts + (self.now.darts + self.now.darts)) }
-        ensures { CornerEnds self.now.posts self.now.darts self.now.ends.now self.now.face.now self.now.darts tails.old heads.old tails.new heads.new }
-    {
-        for d in 0..self.darts {
-            let first = self.darts + d + d;
-            let second = first + 1;
-            let post = self.ends[twin_of(d)];
-            let node = self.node_of(d);
-            tails[first] = post;
-            tails[second] = post;
-            heads[first] = node;
-            heads[second] = node;
-        }
-    }
-
-    // The bounds and costs of the corners' arcs: at least one unit on the first, and on the second the unit that makes a cornered post.
-    fn fill_corner_rates(&self, lowers: &mut [u16], uppers: &mut [u16], costs: &mut [u64])
-        requires { (length lowers.old ≡ self.now.darts + (self.now.darts + self.now.darts)) × (length uppers.old ≡ self.now.darts + (self.now.darts + self.now.darts)) × (length costs.old ≡ self.now.darts + (self.now.darts + self.now.darts)) }
-        ensures { CornerRates self.now.darts self.now.ends.now self.now.degrees.now self.now.darts lowers.old uppers.old costs.old lowers.new uppers.new costs.new }
-    {
-        for d in 0..self.darts {
-            let first = self.darts + d + d;
-            let second = first + 1;
-            let joint = self.is_joint(d);
-            lowers[first] = 1;
-            lowers[second] = 0;
-            uppers[first] = corner_most(joint, true);
-            uppers[second] = corner_most(joint, false);
-            costs[first] = 0;
-            costs[second] = 65536;
-        }
-    }
-
-    fn fill_supplies(&self, supplies: &mut [u16])
-        ensures { Table (length supplies.old) (supply_at self.now.outer) supplies.new }
-    {
-        for (v, supply) in supplies.iter_mut().enumerate() {
-            *supply = self.supply_of(v);
-        }
-    }
-
-    fn fill_demands(&self, demands: &mut [u16])
-        requires { length demands.old ≤ self.now.posts + 66 }
-        ensures { Table (length demands.old) (demand_at self.now.posts self.now.sizes.now self.now.outer) demands.new }
-    {
-        for (v, demand) in demands.iter_mut().enumerate() {
-            *demand = self.demand_of(v);
-        }
+fn lay_nodes(q: &Plate, nodes: &mut [Node])
+    requires { ByNode q.now nodes.old }
+    ensures { Begun no_node (length nodes.old) (node q.now) (length nodes.old) nodes.new }
+{
+    let outer = usize::from(face_node(q, usize::from(q.outer)));
+    for (v, node) in nodes.iter_mut().enumerate() {
+        *node = Node {
+            supply: supply_of(outer, v),
+            demand: demand_of(q, outer, v),
+        };
     }
 }
 
 // Arcs: the darts, then the corners, two to each. Nodes: the posts, then the faces.
-pub fn lay_network(
-    q: Plate,
-    by: StripRates,
-    tails: &mut [u8],
-    heads: &mut [u8],
-    lowers: &mut [u16],
-    uppers: &mut [u16],
-    costs: &mut [u64],
-    supplies: &mut [u16],
-    demands: &mut [u16],
-)
-    requires { Standing q × Lent q tails.old heads.old lowers.old uppers.old costs.old supplies.old demands.old }
-    ensures { (p : PlateOf) → Stands q p → Accepted p → network tails.new heads.new lowers.new uppers.new costs.new supplies.new demands.new ≡ rated_of p (rates by.entry.limits.now by.entry.prices.now) }
+pub fn lay_network(q: &Plate, by: StripRates, arcs: &mut [Arc], nodes: &mut [Node])
+    requires { ByArc q.now arcs.old × ByNode q.now nodes.old }
+    ensures { network_from arcs.new nodes.new ≡ rated_of (meant q.now) (rates by.entry.limits.now by.entry.prices.now) }
 {
-    let Plate {
-        posts,
-        darts,
-        ends,
-        degrees,
-        face,
-        sizes,
-        ..
-    } = q;
-    let layout = Layout {
-        posts,
-        darts,
-        ends: &ends,
-        degrees: &degrees,
-        face: &face,
-        sizes: &sizes,
-        outer: posts + usize::from(face[usize::from(q.outer)]),
-    };
-    layout.fill_bend_ends(tails, heads);
-    lay_bend_rates(darts, by, lowers, uppers, costs);
-    layout.fill_corner_ends(tails, heads);
-    layout.fill_corner_rates(lowers, uppers, costs);
-    layout.fill_supplies(supplies);
-    layout.fill_demands(demands);
+    lay_bends(q, by, arcs);
+    lay_corners(q, arcs);
+    lay_nodes(q, nodes);
 }

@@ -1,5 +1,6 @@
 //! Limits and prices of bends by strip. Against counts: does each strip keep its limit, and what do the bends cost?
-ghost use Rattle.std.specs.Prelude.{◌≡◌, ◌||◌, ◌+◌, ◌%◌, ◌≤◌, ◌<◌, leb, length, get_or};
+ghost use Rattle.std.specs.List.{list_all};
+ghost use Rattle.std.specs.Prelude.{◌≡◌, ◌&&◌, ◌||◌, ◌+◌, ◌%◌, ◌≤◌, ◌<◌, leb, length, get_or};
 ghost use Rattle.shapes.specs.Rates.{pair_sums, prices_ok, all_within, priced_sum};
 
 /// By strip the most bends, 255 or none given for no limit, and the price of a bend, 1 where none is given.
@@ -9,11 +10,18 @@ pub struct StripRates<'a> {
     pub prices: &'a [u8],
 }
 
+// Is each number 1 to `most`?
+pub(crate) fn all_from_one(numbers: &[u8], most: u8) -> bool
+    ensures { result ≡ list_all (λ n. leb 1 n && leb n most) numbers.now }
+{
+    numbers.iter().all(|n| (1..=most).contains(n))
+}
+
 /// Is each price 1 to 100?
 pub fn prices_ok(prices: &[u8]) -> bool
     ensures { result ≡ prices_ok prices.now }
 {
-    prices.iter().all(|q| 1 <= *q && *q <= 100)
+    all_from_one(prices, 100)
 }
 
 // The number of strip `i`, or `none` where the list is shorter.

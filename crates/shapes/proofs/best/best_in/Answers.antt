@@ -1,35 +1,29 @@
--- `best_in`: the network laid is that of each plate that q stands for; the flow solved on it is the best shape's, and a cut says that there is none.
-use borrow.Author.Tests.{not-true, not-false}
+-- `best_in`: the network laid is that of the plate that q stands for; the flow solved on it is the best shape's, and a cut says that there is none.
+use Rattle.embedding.specs.Read.{meant}
+use Rattle.flow.specs.Network.{Best}
 use Rattle.shapes.specs.Rates.{rates}
-use Rattle.shapes.proofs.Results.{laid_sound, solved, unsolved, units_small, shape_held}
+use Rattle.shapes.specs.NetworkOf.{rated_of}
+use Rattle.shapes.proofs.Accepted.{sound_by, cut_no_shape}
+use Rattle.shapes.proofs.Results.{units_small, shape_held}
 use Rattle.shapes.proofs.best.best_in.Goals as goal
+use Rattle.shapes.proofs.best.best_in.Goals.{In-Ok}
+
+best_flow : (c : In-Ok) → Best (rated_of (meant c.args.q.now) (rates c.args.by.limits.now c.args.by.prices.now)) c.solve.new.x
+best_flow c = rw c.lay_network.ensures at c.in-Ok.ensures
 
 pub solve-requires-clause-sound : goal.solve-requires-clause-sound
-solve-requires-clause-sound c =
-    let lay = c.lay_network in
-    let h = c.requires.0 in
-    let e = lay.ensures h.0 h.1 h.2 in
-    laid_sound h.0 h.2 (rates c.args.by.limits.now c.args.by.prices.now) c.requires.1 e
-
-pub returns-then-not-solve : goal.returns-then-not-solve
-returns-then-not-solve c =
-    let solve = c.solve in
-    let lay = c.lay_network in
-    let told = not-true solve.result c.if-not-solve.true-raw in
-    λ p st a. unsolved p a (rates c.args.by.limits.now c.args.by.prices.now) c.requires.1 solve.new.x (lay.ensures p st a) solve.result told solve.ensures
+solve-requires-clause-sound c = rw c.lay_network.ensures (sound_by (meant c.args.q.now) c.args.q.now.accepted (rates c.args.by.limits.now c.args.by.prices.now) c.requires.0)
 
 pub take_shape-requires : goal.take_shape-requires
 take_shape-requires c =
-    let solve = c.solve in
-    let lay = c.lay_network in
-    let h = c.requires.0 in
-    let told = not-false solve.result c.if-not-solve.false-raw in
-    units_small h.0 h.2 (rates c.args.by.limits.now c.args.by.prices.now) c.requires.1 _ (solved h.0 h.2 (rates c.args.by.limits.now c.args.by.prices.now) c.requires.1 (lay.ensures h.0 h.1 h.2) solve.result told solve.ensures) c.args.q.darts h.1.dart_count
+    let q = c.args.q.now in
+    units_small (meant q) q.accepted (rates c.args.by.limits.now c.args.by.prices.now) c.requires.0 c.solve.new.x (best_flow c) q.darts q.stands.dart_count
 
-pub returns : goal.returns
-returns c =
-    let solve = c.solve in
-    let lay = c.lay_network in
-    let told = not-false solve.result c.if-not-solve.false-raw in
-    λ p st a.
-    shape_held p a (rates c.args.by.limits.now c.args.by.prices.now) c.requires.1 _ (solved p a (rates c.args.by.limits.now c.args.by.prices.now) c.requires.1 (lay.ensures p st a) solve.result told solve.ensures) c.args.q.darts st.dart_count c.take_shape.result c.take_shape.ensures
+pub returns-in-Ok : goal.returns-in-Ok
+returns-in-Ok c =
+    let q = c.args.q.now in
+    let p = (goal.at.returns-in-Ok c).In-Ok in
+    shape_held (meant q) q.accepted (rates c.args.by.limits.now c.args.by.prices.now) c.requires.0 c.solve.new.x (best_flow p) q.darts q.stands.dart_count c.take_shape.result c.take_shape.ensures
+
+pub returns-in-Err : goal.returns-in-Err
+returns-in-Err c = cut_no_shape (meant c.args.q.now) c.args.q.now.accepted (rates c.args.by.limits.now c.args.by.prices.now) c.requires.0 (rw c.lay_network.ensures at c.in-Err.ensures)

@@ -1,23 +1,24 @@
 -- `take_shape`: the units of the darts come first, then two for each corner.
-use Rattle.std.proofs.Common.{ℕ, List, arith, ap, subst, ◌∙◌, take, get_or}
-use lib.Seq.{length-take-le}
+use Rattle.std.proofs.Common.{◌≡◌, ◌∙◌, sym, ap, rules, arith, length, take, drop, get_or}
+use lib.Seq.{length-take-le, get_or-take}
+use lib.ListN.{length-drop}
 use Rattle.finite.specs.Base.{total}
-use Rattle.finite.specs.Tables.{Table}
-use Rattle.finite.proofs.Lent.{rest_lent}
+use Rattle.finite.proofs.Tables.{table_list}
 use Rattle.shapes.specs.Rates.{pair_sums}
-use Rattle.shapes.proofs.Halves.{rest_fits, front_is}
+use Rattle.shapes.proofs.Pairs.{sums_long}
+use Rattle.shapes.proofs.Halves.{front_is}
 use Rattle.shapes.proofs.best.take_shape.Goals as goal
-
-pub corners_of-angles-requires : goal.corners_of-angles-requires
-corners_of-angles-requires c = rest_fits c.args.darts c.args.x.now c.requires
 
 pub returns : goal.returns
 returns c =
-    let darts = c.args.darts in
+    let m = c.args.darts in
     let x = c.args.x.now in
-    let rights = c.bytes_of-rights in
+    let long : length (take m x) ≡ m = length-take-le m x (omega (arith, c.requires.long)) in
+    let rights = table_list 256 (take m x) c.bytes_of-rights.result m (omega arith)
+    (c.bytes_of-rights.ensures (λ i. get_or (take m x) i 0) (λ i r l e. let here : r ≡ get_or x i 0 = search rules in here ∙ sym (get_or-take m x i 0 l))) in
     record {
-      rights = rights.ensures;
-      angles = subst (λ (l : List ℕ). Table 256 (λ i. get_or (pair_sums l) i 0) c.corners_of-angles.result) (rest_lent x darts) c.corners_of-angles.ensures;
-      sum = c.total_bends-total.ensures ∙ ap total (front_is (take darts x) rights.result darts (length-take-le darts x (omega (arith, c.requires.long))) c.requires.darts_most rights.ensures);
+      rights = rights;
+      angles = table_list 256 (pair_sums (drop m x)) c.bytes_of-angles.result m (omega (arith, sums_long m (drop m x) (omega (arith, c.requires.long, length-drop m x))))
+          (c.bytes_of-angles.ensures (λ i. get_or (pair_sums (drop m x)) i 0) (λ i r l e. search rules));
+      sum = c.total_bends-total.ensures ∙ ap total (front_is (take m x) c.bytes_of-rights.result m long c.requires.darts_most rights);
     }

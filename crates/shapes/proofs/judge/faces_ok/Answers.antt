@@ -7,31 +7,25 @@ use Rattle.shapes.proofs.judge.faces_ok.Goals as goal
 
 pub face_plus-plus-requires : goal.face_plus-plus-requires
 face_plus-plus-requires c =
-    let (p, s, a) = c.requires.1 in
-    (face_keys s a, omega (arith, c.args.counts.counted.same_length, c.args.counts.counted.most))
+    (face_keys c.args.q, omega (arith, c.args.counts.counted.same_length, c.args.counts.counted.most))
 
 pub face_minus-minus-requires : goal.face_minus-minus-requires
 face_minus-minus-requires c =
-    let (p, s, a) = c.requires.1 in
-    face_keys s a
+    face_keys c.args.q
 
 pub key_of-outer-requires : goal.key_of-outer-requires
 key_of-outer-requires c =
-    let (p, s, a) = c.requires.1 in
-    (rw c.from.ensures (outer_key s a), (face_keys s a).below)
+    (rw c.from.ensures (outer_key c.args.q), (face_keys c.args.q).below)
 
 pub all_turn-requires : goal.all_turn-requires
 all_turn-requires c =
-    let (p, s, a) = c.requires.1 in
-    few_faces s a
+    few_faces c.args.q
 
 pub returns : goal.returns
 returns c =
     let counts = c.args.counts in
-    let pre = c.requires in
     let plus = c.face_plus-plus in
     let minus = c.face_minus-minus in
     let outer = c.key_of-outer in
-    λ p s a.
     c.all_turn.ensures
-    ∙ faces_tested s a counts.angles.now pre.0 counts.rights.now (omega (arith, counts.counted.same_length)) plus.result minus.result outer.result plus.ensures minus.ensures (rw c.from.ensures at outer.ensures.0)
+    ∙ faces_tested c.args.q counts.angles.now c.requires counts.rights.now (omega (arith, counts.counted.same_length)) plus.result minus.result outer.result plus.ensures minus.ensures (rw c.from.ensures at outer.ensures.0)

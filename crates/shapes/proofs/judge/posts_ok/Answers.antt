@@ -6,10 +6,9 @@ use Rattle.shapes.proofs.judge.posts_ok.Goals as goal
 
 pub post_angles-requires : goal.post_angles-requires
 post_angles-requires c =
-    let (p, s, a) = c.requires.1 in
-    (ends_keys s a, few_angles s a c.args.angles.now c.requires.0)
+    (ends_keys c.args.q, few_angles c.args.q c.args.angles.now c.requires)
 
 pub returns : goal.returns
 returns c =
     let sums = c.post_angles in
-    λ p s a. c.all_four.ensures ∙ posts_tested s a c.args.angles.now c.requires.0 sums.result sums.ensures
+    c.all_four.ensures ∙ posts_tested c.args.q c.args.angles.now c.requires sums.result sums.ensures
