@@ -25,7 +25,7 @@ pub const NO_ARC: Arc = Arc {
     cost: 0,
 };
 
-// The mark of a node that no source leads to. A mark in a byte, no option: it is above every other in the order by which the tree is proved.
+// The mark of a node that no source leads to. A byte, no option: marks are compared in order, and this one stands above all others.
 pub const UNREACHED: u8 = 255;
 
 // Whether an arc of this cost is tight between potentials low and high.

@@ -6,7 +6,8 @@ ghost use Rattle.residual.specs.Arcs.{tails_of, heads_of, lowers_of, uppers_of, 
 
 use crate::arcs::Arc;
 
-// The arcs at each node that can move, from the last one back: by node its last arc, by arc the one before it, each one more than its number, or 0.
+// The arcs at each node that can move, from the last one back: by node its last arc, by arc the one before it, each one more than its number.
+// 0 is none: one test, `at > from`, ends a walk there and below `from`.
 #[derive(Clone, Copy)]
 pub struct Links<'a> {
     pub last: &'a [u16],
