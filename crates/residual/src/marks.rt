@@ -1,7 +1,6 @@
 //! The marks of the sources before a search, and the nodes that it is for.
 ghost use Rattle.std.specs.Prelude.{◌≡◌, ◌≤◌, ◌<◌, length};
 ghost use Rattle.residual.specs.Chains.{Lined};
-ghost use Rattle.residual.specs.Graphs.{Workspace};
 ghost use Rattle.residual.specs.Marks.{mark_of, marks_of, Single, Wants};
 
 use crate::arcs::UNREACHED;
@@ -26,12 +25,14 @@ pub fn mark_sources(left: &[u16], dist: &mut [u8])
 
 // Marks one node as the source, and no other, and puts it into the queue.
 pub fn mark_only(source: usize, space: &mut Space<'_>)
-    requires workspace { Workspace (length space.old.dist.now) space.old }
+    requires queue_len { length space.old.queue.now ≡ length space.old.dist.now }
     requires source_in_bounds { source < length space.old.dist.now }
     requires dist_len_bound { length space.old.dist.now ≤ 255 }
     ensures single { Single space.new.dist.now source }
     ensures lined { Lined space.new.dist.now 1 space.new.queue.now }
-    ensures workspace { Workspace (length space.old.dist.now) space.new }
+    ensures dist_len { length space.new.dist.now ≡ length space.old.dist.now }
+    ensures via_after { space.new.via.now ≡ space.old.via.now }
+    ensures queue_len { length space.new.queue.now ≡ length space.old.queue.now }
 {
     space.dist.fill(UNREACHED);
     space.dist[source] = 0;
