@@ -15,9 +15,6 @@ use Rattle.shapes.specs.Entries.{no_arc, no_node, Begun, CornersLaid}
 use Rattle.shapes.proofs.Tables.{get_d_first, get_d_second, by_parts}
 use Rattle.shapes.proofs.Arcs.{by-arcs, arcs_long, at_bend, at_low, at_high}
 
-pub begun_none : {A : Type 0} {none : A} {n : ℕ} {f : ℕ → A} {xs : List A} → length xs ≡ n → Begun none n f 0 xs
-begun_none e = record { size = e; below = λ i l. absurd (omega arith) }
-
 module _ {A : Type 0} {none : A} {n : ℕ} {f : ℕ → A} {k : ℕ} {xs : List A} (b : Begun none n f k xs) where
   pub begun_more : {w : A} → k < length xs → w ≡ f k → Begun none n f (k + 1) (set xs k w)
   begun_more {w} l e =
@@ -28,13 +25,7 @@ module _ {A : Type 0} {none : A} {n : ℕ} {f : ℕ → A} {k : ℕ} {xs : List 
             (get_or-set_same xs k w none l ∙ e);
       }
 
-  pub begun_upto : {j : ℕ} → j ≤ k → Begun none n f j xs
-  begun_upto l = record { size = b.size; below = λ i h. b.below i (omega arith) }
-
 -- the two arcs of each corner, one corner after the other
-pub corners_none : (m : ℕ) {g h : ℕ → Arc} (xs : List Arc) → CornersLaid m g h 0 xs xs
-corners_none m xs = record { size = refl; bend = λ d l. refl; first = λ d l. absurd (omega arith); second = λ d l. absurd (omega arith) }
-
 module _ {m : ℕ} {g h : ℕ → Arc} {k : ℕ} {ys xs : List Arc} (c : CornersLaid m g h k ys xs) where
   before_both : (w u : Arc) (i : ℕ) → i < m + k + k → get_or (set (set xs (m + k + k) w) (m + k + k + 1) u) i no_arc ≡ get_or xs i no_arc
   before_both w u i l =
@@ -53,9 +44,6 @@ module _ {m : ℕ} {g h : ℕ → Arc} {k : ℕ} {ys xs : List Arc} (c : Corners
         second = below_more (λ (d : ℕ). get_or zs (m + d + d + 1) no_arc ≡ h d) k (λ d less. before_both w u (m + d + d + 1) (omega arith) ∙ c.second d less)
             (get_or-set_same (set xs (m + k + k) w) (m + k + k + 1) u no_arc (omega (arith, length-set xs (m + k + k) w)) ∙ high);
       }
-
-  pub corners_done : m ≤ k → CornersLaid m g h m ys xs
-  corners_done l = record { size = c.size; bend = c.bend; first = λ d less. c.first d (omega arith); second = λ d less. c.second d (omega arith) }
 
 -- one number of each arc: the darts' arcs, then the corners'
 pub arcs_laid : (field : Arc → ℕ) → field no_arc ≡ 0 → {m : ℕ} {f g h : ℕ → Arc} {ys xs : List Arc} → Begun no_arc (m + (m + m)) f m ys → CornersLaid m g h m ys xs → (f' g' h' : ℕ → ℕ)

@@ -40,7 +40,6 @@ pub mod Joints
 pub mod Accepted
 pub mod HeldPlate
 pub mod Filled
-pub mod Bounds
 pub mod Laid
 pub mod Results
 pub mod Halves
@@ -50,7 +49,6 @@ pub mod Tried
 pub mod Groups
 pub mod Chains
 pub mod Upward
-pub mod RangeFront
 pub mod StripLoops
 pub mod Sides
 pub mod Verdict

@@ -19,20 +19,6 @@ use Rattle.shapes.proofs.HeldPlate.{few_posts, few_faces, ends_are, faces_are, o
 use Rattle.shapes.proofs.Places.{index_test}
 use Rattle.shapes.proofs.Sides.{plus_group, minus_group, angle_group}
 
--- the first test that fails
-module _ (p : Plate) (al rs : List ℕ) where
-  pub refused_19 : angles_ok al ≡ false → 19 ≡ judgement p al rs
-  refused_19 e = rw e
-
-  pub refused_20 : angles_ok al ≡ true → posts_ok p.posts 0 p al ≡ false → 20 ≡ judgement p al rs
-  refused_20 e f = rw (e, f)
-
-  pub refused_21 : angles_ok al ≡ true → posts_ok p.posts 0 p al ≡ true → faces_ok p al (shape_of p al rs).words (faces p) ≡ false → 21 ≡ judgement p al rs
-  refused_21 e f g = rw (e, f, g)
-
-  pub not_refused : angles_ok al ≡ true → posts_ok p.posts 0 p al ≡ true → faces_ok p al (shape_of p al rs).words (faces p) ≡ true → 0 ≡ judgement p al rs
-  not_refused e f g = rw (e, f, g)
-
 fours : (p : Plate) (al sums : List ℕ) (n v : ℕ) → ((i : ℕ) → i < v + n → get_or sums i 0 ≡ angle_sum (darts p) 0 p i al) → all_four n v sums ≡ posts_ok n v p al
 fours p al sums zero v h = refl
 fours p al sums (suc n) v h = cc (h v (omega arith), fours p al sums n (suc v) (λ i l. h i (omega arith)))
