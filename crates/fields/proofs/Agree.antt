@@ -1,16 +1,14 @@
 -- The rule of a tag agrees with `tag_ok` and `long_ok`: shown at each tag by computation, and where the tag is none of them. Assumes nothing.
-use mathlib.Core.Path.{◌≡◌, refl, sym, subst, ap, ◌∙◌}
-use mathlib.Core.Bool.{Bool, true, false, ◌&&◌, not}
+use mathlib.Core.Path.{◌≡◌, refl, sym, subst, ◌∙◌}
+use mathlib.Core.Bool.{Bool, true, false, ◌&&◌}
+use Rattle.std.specs.Prelude.{None, is_some}
 use Prim.Native.Nat.{ℕ, ◌+◌, ◌≤◌, ◌<◌}
 use native.Mathlib.Omega.{arith}
 use lib.Dec.{T, eqb, leb}
 use borrow.Author.Tests.{eqb-true, eqb-false, leb-true, ne_eqb}
-use Rattle.finite.specs.Base.{when}
 use Rattle.finite.proofs.Tests.{and_parts}
 use Rattle.fields.specs.Files.{tag_ok, long_ok}
-use Rattle.fields.specs.Rules.{is_tag, keeps, rule_of, rule_number, RuleIs, first_tag}
-use Rattle.fields.specs.declared.Rule.{Rule}
-use Rattle.fields.specs.declared.Rule.TheVariants.{Exactly, EvenUpTo, UpTo, NoTag}
+use Rattle.fields.specs.Rules.{allowed, rule_of, first_tag}
 
 -- to show P at t, show it at a, and where t is another number
 pub at_or : (P : ℕ → Type 0) (a t : ℕ) → P a → ((t ≡ a → ⊥) → P t) → P t
@@ -31,10 +29,10 @@ outside a b t h = go (leb a t) (leb t b) refl refl
 
 -- what the table says of a tag and a length
 pub record Agrees (k : Bool) (t : ℕ) : Type 0 where
-  pub tag : is_tag (rule_of k t) ≡ tag_ok k t
-  pub long : (n : ℕ) → tag_ok k t ≡ true → keeps (rule_of k t) n ≡ long_ok k t n
+  pub tag : is_some (rule_of k t) ≡ tag_ok k t
+  pub long : (n : ℕ) → tag_ok k t ≡ true → allowed (rule_of k t) n ≡ long_ok k t n
 
-no_tag : (k : Bool) (t : ℕ) → rule_of k t ≡ NoTag → tag_ok k t ≡ false → Agrees k t
+no_tag : (k : Bool) (t : ℕ) → rule_of k t ≡ None → tag_ok k t ≡ false → Agrees k t
 no_tag k t r f = record { tag = rw (r, f); long = λ n e. absurd (subst T (sym e ∙ f) tt) }
 
 -- the tags of a list left out, in two steps
@@ -65,21 +63,6 @@ agrees true t =
     no_tag true t
     (simp (outside 17 18 t (omega arith), outside 19 20 t (omega arith), ne_eqb t 21 n21))
     (outside 17 21 t (omega arith))
-
--- a rule's number is that of refusal 2
-number_by : (r : Rule) → rule_number r ≡ when (not (is_tag r)) 2
-number_by (Exactly m) = refl
-number_by (EvenUpTo m) = refl
-number_by (UpTo m) = refl
-number_by NoTag = refl
-
-pub rule_is : (k : Bool) (t : ℕ) (r : Rule) → r ≡ rule_of k t → RuleIs k t r
-rule_is k t r e =
-    record {
-      rule = e;
-      number = number_by r ∙ ap (λ (b : Bool). when (not b) 2) (ap is_tag e ∙ (agrees k t).tag);
-      long = λ n o. ap (λ (q : Rule). keeps q n) e ∙ (agrees k t).long n o;
-    }
 
 -- a tag of a file stands in the file's range
 pub tag_from : (k : Bool) (t : ℕ) → tag_ok k t ≡ true → (first_tag k ≤ t) × (t < first_tag k + 7)

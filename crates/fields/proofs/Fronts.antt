@@ -12,8 +12,7 @@ use borrow.Author.Tests.{eqb-true, eqb-false, ne_eqb, ltb-true, ltb-false, le-lt
 use Rattle.finite.specs.Base.{first_of, when}
 use Rattle.finite.proofs.Tests.{first_same, first_some, when_none}
 use Rattle.fields.specs.Files.{Field, Walk, tag_ok, long_ok, has_tag, add_field, head_long, last_tag, fault_by, field_at, fields_by, walk_by, old_walk}
-use Rattle.fields.specs.Ordering.{is_shape_file, order_fault, OrderWith, OrderSays}
-use Rattle.fields.specs.declared.ordering.Ordered.{Ordered}
+use Rattle.fields.specs.Ordering.{Ordered, is_shape_file, order_fault, OrderWith, OrderSays}
 use Rattle.fields.proofs.Longest.{room, front_takes, older_longest}
 use Rattle.fields.proofs.Turns.{from_fault, from_met, passed_by}
 

@@ -1,9 +1,9 @@
 -- Laws that belong to no one function.
 pub mod Agree
-pub mod OneField
 pub mod Added
 pub mod Turns
 pub mod Walked
+pub mod Named
 pub mod FrontField
 pub mod Longest
 pub mod Fronts
@@ -18,6 +18,6 @@ pub mod SixTags
 pub mod Replaced
 pub mod Remarked
 pub mod PassedOver
-pub mod Slots
+pub mod InOrder
 pub mod Only
 pub mod Puts

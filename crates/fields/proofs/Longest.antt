@@ -4,6 +4,7 @@ use mathlib.Core.Path.{◌≡◌, refl, sym, subst, ap, ◌∙◌}
 use mathlib.Core.Bool.{Bool, true, false}
 use mathlib.Core.List.{List, []}
 use Prim.Native.Nat.{ℕ, zero, suc, ◌+◌, ◌≤◌, ◌<◌}
+use Rattle.std.specs.Prelude.{Option, Some, None}
 use native.Mathlib.Omega.{arith}
 use lib.Dec.{T, eqb, leb}
 use lib.ListN.{length, get_or, drop, length-drop}
@@ -11,28 +12,28 @@ use borrow.Author.Tests.{eqb-true, eqb-false, leb-true, ne_eqb}
 use Rattle.finite.specs.Base.{pick}
 use Rattle.finite.proofs.Tests.{and_parts}
 use Rattle.fields.specs.Files.{Field, Walk, tag_ok, long_ok, has_tag, add_field, head_long, fault_by, field_at, fields_by, walk_all, old_walk}
-use Rattle.fields.specs.Rules.{keeps, rule_of, slot_of, tag_at}
+use Rattle.fields.specs.Rules.{allowed, rule_of, slot_of, tag_at}
 use Rattle.fields.specs.declared.Rule.{Rule}
-use Rattle.fields.specs.declared.Rule.TheVariants.{Exactly, EvenUpTo, UpTo, NoTag}
+use Rattle.fields.specs.declared.Rule.TheVariants.{Exactly, EvenUpTo, UpTo}
 use Rattle.fields.proofs.Agree.{agrees, tag_from}
 use Rattle.fields.proofs.Added.{has_other, has_own}
 use Rattle.fields.proofs.Turns.{from_fault, from_met, passed_by}
 
 -- the most bytes of a field by its rule, its head counted in
-abbrev room_of : Rule → ℕ
-room_of (Exactly m) = 3 + m
-room_of (EvenUpTo m) = 3 + m
-room_of (UpTo m) = 3 + m
-room_of NoTag = 0
+abbrev room_of : Option Rule → ℕ
+room_of (Some (Exactly m)) = 3 + m
+room_of (Some (EvenUpTo m)) = 3 + m
+room_of (Some (UpTo m)) = 3 + m
+room_of None = 0
 
-kept_room : (r : Rule) (n : ℕ) → keeps r n ≡ true → 3 + n ≤ room_of r
-kept_room (Exactly m) n e = let p = eqb-true n m e in omega arith
-kept_room (EvenUpTo m) n e =
+kept_room : (r : Option Rule) (n : ℕ) → allowed r n ≡ true → 3 + n ≤ room_of r
+kept_room (Some (Exactly m)) n e = let p = eqb-true n m e in omega arith
+kept_room (Some (EvenUpTo m)) n e =
     let (a, b) = and_parts (leb n m) _ e in
     let l : n ≤ m = leb-true n m a in
     omega arith
-kept_room (UpTo m) n e = let l : n ≤ m = leb-true n m e in omega arith
-kept_room NoTag n e = absurd (subst T (sym e) tt)
+kept_room (Some (UpTo m)) n e = let l : n ≤ m = leb-true n m e in omega arith
+kept_room None n e = absurd (subst T (sym e) tt)
 
 -- what slot i may still take, and the first j slots together
 abbrev part : Bool → List Field → ℕ → ℕ

@@ -11,10 +11,9 @@ use borrow.Author.Tests.{eqb-false, eq-eqb, leb-true, le-leb, ne_eqb}
 use Rattle.finite.specs.Base.{pick, first_of, when}
 use Rattle.finite.proofs.Tests.{not_true_false, same_test, and_parts, or_left_false, or_right_false}
 use Rattle.fields.specs.Files.{Field, Walk, walk, tag_ok, long_ok, has_tag, content_of, add_field, head_long, last_tag, field_at, fault_by, fields_with, fields_by, walk_by, old_walk}
-use Rattle.fields.specs.Ordering.{rising, sorted, bytes_in, is_shape_file, ordered_bytes, order_fault, OrderWith, OrderSays}
+use Rattle.fields.specs.Ordering.{Ordered, rising, sorted, bytes_in, is_shape_file, ordered_bytes, order_fault, OrderWith, OrderSays}
 use Rattle.fields.specs.Writing.{over}
 use Rattle.fields.specs.Unlimited.{six_tag, six_long, six_fault, six_walk, six_bytes, SixOrdered, comes_from, comes_to, SixTags}
-use Rattle.fields.specs.declared.ordering.Ordered.{Ordered}
 use Rattle.fields.proofs.Agree.{at_or, above_four}
 use Rattle.fields.proofs.Added.{has_other}
 use Rattle.fields.proofs.Laid.{all_tags}

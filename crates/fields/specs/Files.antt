@@ -1,5 +1,5 @@
 -- Fields of both files: the walk's refusals 1 to 6 and 29; a field's bytes.
-use Rattle.std.specs.Prelude.{Bool, true, false, ◌&&◌, ◌||◌, not, List, [], ◌∷◌, ◌++◌, ℕ, zero, suc, ◌+◌, ◌*◌, ◌/◌, ◌%◌, eqb, ltb, leb, length, get_or, take, drop}
+use Rattle.std.specs.Prelude.{Bool, true, false, ◌&&◌, ◌||◌, not, List, [], ◌∷◌, ◌++◌, ℕ, zero, suc, ◌+◌, ◌*◌, ◌/◌, ◌%◌, eqb, ltb, leb, length, get_or, take, drop, Option, Some, None}
 use Rattle.finite.specs.Base.{pick, first_of, when}
 
 -- which tags a file has, and their lengths; the remark's is 6 in a list, 15 hexadecimal in a shape; 7 are the limits of bends, a byte a strip
@@ -29,6 +29,11 @@ has_tag t (f ∷ fs) = eqb t f.tag || has_tag t fs
 abbrev pub content_of : ℕ → List Field → List ℕ
 content_of t [] = []
 content_of t (f ∷ fs) = elim (eqb t f.tag) [ true ↦ f.content | false ↦ content_of t fs ]
+
+-- the content of tag t; none where it is absent
+abbrev pub content_at : ℕ → List Field → Option (List ℕ)
+content_at t [] = None
+content_at t (f ∷ fs) = elim (eqb t f.tag) [ true ↦ Some f.content | false ↦ content_at t fs ]
 
 abbrev pub add_field : List Field → Field → List Field
 add_field [] f = f ∷ []

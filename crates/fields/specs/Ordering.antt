@@ -1,12 +1,11 @@
 -- Older files put in tag order: the fields by rising tag, their bytes, what the call promises, and what holds of both walks.
-use Rattle.std.specs.Prelude.{◌≡◌, ◌↔◌, Bool, true, false, ◌&&◌, not, List, [], ◌∷◌, ◌++◌, ℕ, zero, suc, ◌+◌, ◌≤◌, ◌<◌, ltb, leb, length, get_or, take}
+use Rattle.std.specs.Prelude.{◌≡◌, ◌↔◌, Bool, true, false, ◌&&◌, not, List, [], ◌∷◌, ◌++◌, ℕ, zero, suc, ◌+◌, ◌≤◌, ltb, leb, length, get_or, take, Result, Ok, Err}
 use Rattle.finite.specs.Base.{pick, first_of, when}
+use Rattle.refusals.specs.Numbers.{number_of}
+use Rattle.refusals.specs.declared.Refusal.{Refusal}
 use Rattle.fields.specs.Files.{Field, walk, tag_ok, long_ok, has_tag, content_of, head_long, fault_by, walk_all, old_walk, field}
-use Rattle.fields.specs.Rules.{first_tag, tag_at}
-use Rattle.fields.specs.Says.{HoldsBy}
-use Rattle.fields.specs.declared.Fields.{Fields}
+use Rattle.fields.specs.Rules.{first_tag}
 use Rattle.fields.specs.Writing.{over, all_bytes}
-use Rattle.fields.specs.declared.ordering.Ordered.{Ordered}
 
 -- the field of tag t, where there is one
 abbrev pub field_of : ℕ → List Field → List Field
@@ -38,26 +37,21 @@ ordered_bytes s = let k = is_shape_file s in bytes_in (sorted k (old_walk k s).f
 abbrev pub order_fault : List ℕ → List ℕ → ℕ
 order_fault s o = first_of (old_walk (is_shape_file s) s).number (when (ltb (length o) (length (ordered_bytes s))) 16)
 
+-- an answer's number, and the length of the file put in order; a refusal has its number alone
+pub record Ordered : Type 0 where
+  pub number : ℕ
+  pub long : ℕ
+
+abbrev pub ordered_of : Result ℕ Refusal → Ordered
+ordered_of (Ok n) = record { number = 0; long = n }
+ordered_of (Err r) = record { number = number_of r; long = 0 }
+
 abbrev pub OrderWith : ℕ → List ℕ → List ℕ → List ℕ → Ordered → Type 0
 OrderWith zero s o o' r = (r.number ≡ 0) × (r.long ≡ length (ordered_bytes s)) × (o' ≡ over (ordered_bytes s) o)
 OrderWith (suc f) s o o' r = (r.number ≡ suc f) × (r.long ≡ 0) × (o' ≡ o)
 
 abbrev pub OrderSays : List ℕ → List ℕ → List ℕ → Ordered → Type 0
 OrderSays s o o' r = OrderWith (order_fault s o) s o o' r
-
--- for the code: an older file that passed its walk, with room for the field of one slot from a place on, and with room for all fields
-pub record OlderWalked (isShape : Bool) (s : List ℕ) (f : Fields) : Type 0 where
-  pub holds : HoldsBy false isShape s f
-  pub passed : (old_walk isShape s).number ≡ 0
-
-pub record SlotRoom (isShape : Bool) (s : List ℕ) (f : Fields) (slot at room : ℕ) : Type 0 where
-  pub walked : OlderWalked isShape s f
-  pub below : slot < 7
-  pub enough : at + length (bytes_in (field_of (tag_at isShape slot) (old_walk isShape s).fields)) ≤ room
-
-pub record SortedRoom (isShape : Bool) (s : List ℕ) (f : Fields) (room : ℕ) : Type 0 where
-  pub walked : OlderWalked isShape s f
-  pub enough : length s ≤ room
 
 -- the same tags with the same contents
 pub record SameFields (fs gs : List Field) : Type 0 where

@@ -1,44 +1,90 @@
 -- What the walk over a file gives.
-use Rattle.std.specs.Prelude.{◌≡◌, Bool, true, false, List, [], ◌∷◌, ℕ, ◌+◌, ◌≤◌, ◌<◌, eqb, length, get_or, take, drop, replicate}
-use Rattle.finite.specs.Base.{pick, word_at}
-use Rattle.fields.specs.Files.{Field, Walk, has_tag, content_of, walk_by}
-use Rattle.fields.specs.Rules.{tag_at}
-use Rattle.fields.specs.declared.Fields.{Fields}
+use Rattle.std.specs.Prelude.{◌≡◌, Bool, true, false, not, List, ℕ, ◌<◌, get_or, Option, Some, None, Result, Ok, Err, IfOk, option_map}
+use Rattle.finite.specs.Base.{when, word_at}
+use Rattle.refusals.specs.Numbers.{number_of, fault_of}
+use Rattle.refusals.specs.declared.Refusal.{Refusal}
+use Rattle.fields.specs.Files.{Field, content_of, content_at, all_there, walk_by, walk_all}
+use Rattle.fields.specs.Rules.{tag_at, all_met}
+use Rattle.fields.specs.declared.Slots.{Slots}
+use Rattle.fields.specs.declared.ListFields.{ListFields}
+use Rattle.fields.specs.declared.ShapeFields.{ShapeFields}
 
--- where the content of tag t starts in a file whose first field stands at p; 0 where the tag is absent
-abbrev pub place_from : ℕ → ℕ → List Field → ℕ
-place_from p t [] = 0
-place_from p t (f ∷ fs) = elim (eqb t f.tag) [ true ↦ p + 3 | false ↦ place_from (p + 3 + length f.content) t fs ]
+-- the content of slot i
+abbrev pub content_in : Slots → ℕ → Option (List ℕ)
+content_in f i = option_map (λ c. c.now) (get_or f.slots i None)
 
--- the fields of an accepted file; none of a refused one
-abbrev pub kept : Walk → List Field
-kept w = pick (eqb w.number 0) w.fields []
+-- each slot holds the content of its tag, where the fields fs were met
+pub record SlotsOf (isShape : Bool) (fs : List Field) (f : Slots) : Type 0 where
+  pub slot : (i : ℕ) → i < 7 → content_in f i ≡ content_at (tag_at isShape i) fs
 
--- what is held of one tag, where the fields fs were met in the file s: all is 0 where the tag is absent
-pub record Slot (s : List ℕ) (fs : List Field) (t : ℕ) (at long : ℕ) (seen : Bool) : Type 0 where
-  pub there : seen ≡ has_tag t fs
-  pub place : at ≡ place_from 0 t fs
-  pub size : long ≡ length (content_of t fs)
-  pub inside : at + long ≤ length s
-  pub content : take long (drop at s) ≡ content_of t fs
+-- what the walk met, before it is asked whether a field is absent, or its refusal
+abbrev pub FieldsMet : Bool → Bool → List ℕ → Result Slots Refusal → Type 0
+FieldsMet inOrder isShape s (Ok f) =
+    let w = walk_by inOrder isShape s in
+    (w.number ≡ when (not (all_there isShape w.fields)) 6) × SlotsOf isShape w.fields f
+FieldsMet inOrder isShape s (Err r) = (walk_by inOrder isShape s).number ≡ number_of r
 
-pub record HoldsBy (inOrder isShape : Bool) (s : List ℕ) (f : Fields) : Type 0 where
-  pub number : f.number ≡ (walk_by inOrder isShape s).number
-  pub slot : (i : ℕ) → i < 7 → Slot s (kept (walk_by inOrder isShape s)) (tag_at isShape i) (get_or f.at i 0) (get_or f.long i 0) (get_or f.seen i false)
+-- the fields of an older file, or its refusal
+pub record HoldsBy (inOrder isShape : Bool) (s : List ℕ) (r : Result Slots Refusal) : Type 0 where
+  pub number : fault_of r ≡ (walk_by inOrder isShape s).number
+  pub slots : IfOk r (SlotsOf isShape (walk_by inOrder isShape s).fields)
 
-abbrev pub Holds : Bool → List ℕ → Fields → Type 0
-Holds isShape s f = HoldsBy true isShape s f
+-- the fields of a plate list and of a shape file by name, each content that of its tag
+pub record ListFieldsOf (fs : List Field) (f : ListFields) : Type 0 where
+  pub revision : f.revision.now ≡ content_of 1 fs
+  pub posts : f.posts.now ≡ content_of 2 fs
+  pub ends : f.ends.now ≡ content_of 3 fs
+  pub order : f.order.now ≡ content_of 4 fs
+  pub outer : f.outer.now ≡ content_of 5 fs
+  pub limits : option_map (λ c. c.now) f.limits ≡ content_at 7 fs
 
--- a refusal gives its number alone
-abbrev pub refused_by : ℕ → Fields
-refused_by e = record { number = e; at = replicate 7 0; long = replicate 7 0; seen = replicate 7 false }
+pub record ShapeFieldsOf (fs : List Field) (f : ShapeFields) : Type 0 where
+  pub revision : f.revision.now ≡ content_of 17 fs
+  pub total : f.total.now ≡ content_of 18 fs
+  pub angles : f.angles.now ≡ content_of 19 fs
+  pub rights : f.rights.now ≡ content_of 20 fs
 
--- for a reader: each slot stands within the file, and its bytes; `Holds` gives the one, and `content` of its slot what the other is
-abbrev pub Within : List ℕ → Fields → Type 0
-Within s f = (i : ℕ) → i < 7 → get_or f.at i 0 + get_or f.long i 0 ≤ length s
+-- the contents that slots hold, by name
+pub record ListNamed (f : Slots) (g : ListFields) : Type 0 where
+  pub revision : Some g.revision ≡ get_or f.slots 0 None
+  pub posts : Some g.posts ≡ get_or f.slots 1 None
+  pub ends : Some g.ends ≡ get_or f.slots 2 None
+  pub order : Some g.order ≡ get_or f.slots 3 None
+  pub outer : Some g.outer ≡ get_or f.slots 4 None
+  pub limits : g.limits ≡ get_or f.slots 6 None
 
-abbrev pub bytes_of : List ℕ → Fields → ℕ → List ℕ
-bytes_of s f i = take (get_or f.long i 0) (drop (get_or f.at i 0) s)
+pub record ShapeNamed (f : Slots) (g : ShapeFields) : Type 0 where
+  pub revision : Some g.revision ≡ get_or f.slots 0 None
+  pub total : Some g.total ≡ get_or f.slots 1 None
+  pub angles : Some g.angles ≡ get_or f.slots 2 None
+  pub rights : Some g.rights ≡ get_or f.slots 3 None
+
+-- these, or 6 where one of them is absent
+pub record ListThere (f : Slots) (r : Result ListFields Refusal) : Type 0 where
+  pub number : fault_of r ≡ when (not (all_met false f.slots)) 6
+  pub fields : IfOk r (ListNamed f)
+
+pub record ShapeThere (f : Slots) (r : Result ShapeFields Refusal) : Type 0 where
+  pub number : fault_of r ≡ when (not (all_met true f.slots)) 6
+  pub fields : IfOk r (ShapeNamed f)
+
+-- all of them, or 6
+pub record AllThere (isShape : Bool) (f : Slots) (r : Result Slots Refusal) : Type 0 where
+  pub number : fault_of r ≡ when (not (all_met isShape f.slots)) 6
+  pub same : IfOk r (λ g. g ≡ f)
+
+-- what the walk over a plate list and over a shape file gives
+pub record ListWalked (s : List ℕ) (r : Result ListFields Refusal) : Type 0 where
+  pub number : fault_of r ≡ (walk_all false s).number
+  pub fields : IfOk r (ListFieldsOf (walk_all false s).fields)
+
+pub record ShapeWalked (s : List ℕ) (r : Result ShapeFields Refusal) : Type 0 where
+  pub number : fault_of r ≡ (walk_all true s).number
+  pub fields : IfOk r (ShapeFieldsOf (walk_all true s).fields)
+
+-- the first byte, 0 where there is none
+abbrev pub head : List ℕ → ℕ
+head c = get_or c 0 0
 
 -- the first two bytes as a number, high byte first
 abbrev pub word : List ℕ → ℕ

@@ -2,9 +2,8 @@
 use Rattle.std.specs.Prelude.{◌≡◌, ◌↔◌, Bool, true, false, ◌&&◌, ◌||◌, not, List, [], ℕ, zero, suc, ◌+◌, ◌%◌, eqb, ltb, leb, length, get_or, drop}
 use Rattle.finite.specs.Base.{pick, first_of, when}
 use Rattle.fields.specs.Files.{Field, Walk, has_tag, add_field, head_long, last_tag, field_at, fault_by, fields_with, walk_by, old_walk}
-use Rattle.fields.specs.Ordering.{rising, bytes_in, is_shape_file, ordered_bytes, OrderSays}
+use Rattle.fields.specs.Ordering.{rising, bytes_in, is_shape_file, ordered_bytes, Ordered, OrderSays}
 use Rattle.fields.specs.Writing.{over}
-use Rattle.fields.specs.declared.ordering.Ordered.{Ordered}
 
 -- the six tags and their lengths
 abbrev pub six_tag : ℕ → Bool

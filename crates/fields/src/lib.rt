@@ -1,69 +1,66 @@
 // The walk over the fields of a plate list or a shape file.
 #![tactic(auto)]
 
-ghost use Rattle.std.specs.Prelude.{◌≡◌, true, false, ◌<◌, get_or};
-ghost use Rattle.fields.specs.Files.{tag_ok};
-ghost use Rattle.fields.specs.Rules.{RuleIs, FrontIs, keeps, slot_of, all_seen};
+ghost use Rattle.std.specs.Prelude.{◌≡◌, ◌+◌, ◌*◌, true, false};
 ghost use Rattle.finite.specs.Base.{pick};
-ghost use Rattle.fields.specs.Says.{Holds, HoldsBy, Within, bytes_of, word, refused_by};
+ghost use Rattle.fields.specs.Rules.{RuleIs, FrontIs, keeps, first_tag};
+ghost use Rattle.fields.specs.Says.{FieldsMet, HoldsBy, ListThere, ShapeThere, AllThere, ListWalked, ShapeWalked, head, word};
+
+use refusals::Refusal;
 
 pub mod ordering;
 pub mod writing;
 
-// The length rule of a tag.
-#[derive(Clone, Copy)]
+/// The length rule of a tag.
+#[derive(Clone, Copy, Debug, PartialEq, Eq)]
 pub enum Rule {
     Exactly(usize),
     EvenUpTo(usize),
     UpTo(usize),
-    NoTag,
 }
 
-// One field: refused, or met with its slot and its content's length.
-#[derive(Clone, Copy)]
-enum Front {
-    Fault(u8),
-    Met { slot: usize, long: usize },
-}
-
-// Where each field's content stands in the file. A refused file holds nothing.
-#[derive(Clone, Copy)]
-pub struct Fields {
-    pub number: u8,
-    pub at: [usize; 7],
-    pub long: [usize; 7],
-    pub seen: [bool; 7],
-}
-
-// The rule of a tag of a plate list.
-pub fn list_rule(tag: u8) -> Rule
-    ensures { RuleIs false tag result }
-{
-    match tag {
-        0x01 => Rule::Exactly(2),
-        0x02 | 0x05 => Rule::Exactly(1),
-        0x03 => Rule::EvenUpTo(256),
-        0x04 => Rule::UpTo(256),
-        0x06 => Rule::UpTo(80),
-        0x07 => Rule::UpTo(128),
-        _ => Rule::NoTag,
+impl Rule {
+    // Whether it allows a length.
+    fn allows(self, long: usize) -> bool
+        ensures { result ≡ keeps self long }
+    {
+        match self {
+            Rule::Exactly(n) => long == n,
+            Rule::EvenUpTo(n) => long <= n && long % 2 == 0,
+            Rule::UpTo(n) => long <= n,
+        }
     }
 }
 
-// The rule of a tag of a shape.
-pub fn shape_rule(tag: u8) -> Rule
+/// The rule of a tag of a plate list; none where it is no such tag.
+pub fn list_rule(tag: u8) -> Option<Rule>
+    ensures { RuleIs false tag result }
+{
+    match tag {
+        0x01 => Some(Rule::Exactly(2)),
+        0x02 | 0x05 => Some(Rule::Exactly(1)),
+        0x03 => Some(Rule::EvenUpTo(256)),
+        0x04 => Some(Rule::UpTo(256)),
+        0x06 => Some(Rule::UpTo(80)),
+        0x07 => Some(Rule::UpTo(128)),
+        _ => None,
+    }
+}
+
+/// The rule of a tag of a shape; none where it is no such tag.
+pub fn shape_rule(tag: u8) -> Option<Rule>
     ensures { RuleIs true tag result }
 {
     match tag {
-        0x11..=0x12 => Rule::Exactly(2),
-        0x13..=0x14 => Rule::UpTo(256),
-        0x15 => Rule::UpTo(80),
-        _ => Rule::NoTag,
+        0x11..=0x12 => Some(Rule::Exactly(2)),
+        0x13..=0x14 => Some(Rule::UpTo(256)),
+        0x15 => Some(Rule::UpTo(80)),
+        _ => None,
     }
 }
 
 // The rule of a tag of this file.
-fn rule_of(shape: bool, tag: u8) -> Rule
+fn rule_of(shape: bool, tag: u8) -> Option<Rule>
     ensures { RuleIs shape tag result }
 {
     if shape {
@@ -73,179 +70,192 @@ fn rule_of(shape: bool, tag: u8) -> Rule
     }
 }
 
-// Whether a rule allows a length.
-fn allows(rule: Rule, long: usize) -> bool
-    ensures { result ≡ keeps rule long }
+// The tag of the first slot of this file.
+fn first_tag(shape: bool) -> u8
+    ensures { result ≡ first_tag shape }
 {
-    match rule {
-        Rule::Exactly(n) => long == n,
-        Rule::EvenUpTo(n) => long <= n && long % 2 == 0,
-        Rule::UpTo(n) => long <= n,
-        Rule::NoTag => false,
+    if shape { 0x11 } else { 0x01 }
+}
+
+/// The content of each field of a file, by the field's slot. Slots 0 to 6 are
+/// those of tags 01 to 07 in a plate list, of 11 to 17 in a shape file.
+#[derive(Clone, Copy)]
+pub struct Slots<'a> {
+    pub slots: [Option<&'a [u8]>; 7],
+}
+
+/// The contents of a plate list's fields, but for the remark's.
+#[derive(Clone, Copy)]
+pub struct ListFields<'a> {
+    pub revision: &'a [u8],
+    pub posts: &'a [u8],
+    pub ends: &'a [u8],
+    pub order: &'a [u8],
+    pub outer: &'a [u8],
+    pub limits: Option<&'a [u8]>,
+}
+
+/// The contents of a shape file's fields, but for the remark's.
+#[derive(Clone, Copy)]
+pub struct ShapeFields<'a> {
+    pub revision: &'a [u8],
+    pub total: &'a [u8],
+    pub angles: &'a [u8],
+    pub rights: &'a [u8],
+}
+
+impl<'a> Slots<'a> {
+    // The fields of a plate list. All but the remark and the limits must be there.
+    fn list_fields(self) -> Result<ListFields<'a>, Refusal>
+        ensures { ListThere self.entry result }
+    {
+        let absent = Refusal::FieldAbsent;
+        let [revision, posts, ends, order, outer, _, limits] = self.slots;
+        Ok(ListFields {
+            revision: revision.ok_or(absent)?,
+            posts: posts.ok_or(absent)?,
+            ends: ends.ok_or(absent)?,
+            order: order.ok_or(absent)?,
+            outer: outer.ok_or(absent)?,
+            limits,
+        })
+    }
+
+    // The fields of a shape file. All but the remark must be there.
+    fn shape_fields(self) -> Result<ShapeFields<'a>, Refusal>
+        ensures { ShapeThere self.entry result }
+    {
+        let absent = Refusal::FieldAbsent;
+        let [revision, total, angles, rights, ..] = self.slots;
+        Ok(ShapeFields {
+            revision: revision.ok_or(absent)?,
+            total: total.ok_or(absent)?,
+            angles: angles.ok_or(absent)?,
+            rights: rights.ok_or(absent)?,
+        })
+    }
+
+    // All slots of a file in which no field that must be there is absent.
+    fn all_there(self, shape: bool) -> Result<Slots<'a>, Refusal>
+        ensures { AllThere shape self.entry result }
+    {
+        if shape {
+            self.shape_fields()?;
+        } else {
+            self.list_fields()?;
+        }
+        Ok(self)
     }
 }
 
-fn wide(b: u8) -> usize
-    ensures { result ≡ b }
+// The number of two bytes.
+fn joined(high: u8, low: u8) -> usize
+    ensures { result ≡ 256 * high + low }
 {
-    b as usize
+    usize::from(u16::from_be_bytes([high, low]))
 }
 
-// The slot of a tag of this file.
-fn slot_of(shape: bool, tag: u8) -> usize
-    requires { tag_ok shape tag ≡ true }
-    ensures { result ≡ slot_of shape tag }
-{
-    if shape {
-        wide(tag - 0x11)
-    } else {
-        wide(tag - 0x01)
-    }
+// One field met: its slot and content, and what is behind it.
+#[derive(Clone, Copy)]
+struct Met<'a> {
+    slot: usize,
+    content: &'a [u8],
+    rest: &'a [u8],
 }
 
-// The field at the front of `s`, with the slots seen before it and the tag that it may not be below: all six refusals, then the field.
-fn step(s: &[u8], shape: bool, seen: [bool; 7], low: u8) -> Front
-    ensures { FrontIs shape seen low s.now result }
+// The field at the front of `s`, with the slots met before it and the tag that it may not be below: all six refusals, then the field.
+fn step<'a>(s: &'a [u8], shape: bool, before: Slots<'a>, lowest: u8) -> Result<Met<'a>, Refusal>
+    ensures { FrontIs shape before.entry.slots lowest s.now result }
 {
-    let left = s.len();
-    if left < 3 {
-        return Front::Fault(1);
-    }
-    let tag = s[0];
-    let rule = rule_of(shape, tag);
-    if let Rule::NoTag = rule {
-        return Front::Fault(2);
-    }
-    let slot = slot_of(shape, tag);
-    let is_met = seen[slot];
-    let is_below = tag < low;
-    let long = 256 * wide(s[1]) + wide(s[2]);
-    let is_wrong = !allows(rule, long);
+    let [tag, high, low, behind @ ..] = s else {
+        return Err(Refusal::FieldCut);
+    };
+    let rule = rule_of(shape, *tag).ok_or(Refusal::UnknownTag)?;
+    let slot = usize::from(*tag - first_tag(shape));
+    let in_slot = before.slots[slot];
+    let is_met = in_slot.is_some();
+    let is_below = *tag < lowest;
+    let long = joined(*high, *low);
+    let is_wrong = !rule.allows(long);
     if is_met {
-        return Front::Fault(3);
+        return Err(Refusal::RepeatedTag);
     }
     if is_below {
-        return Front::Fault(29);
+        return Err(Refusal::TagOrder);
     }
     if is_wrong {
-        return Front::Fault(4);
+        return Err(Refusal::FieldLength);
     }
-    if left < 3 + long {
-        return Front::Fault(5);
+    if behind.len() < long {
+        return Err(Refusal::ContentCut);
     }
-    Front::Met { slot, long }
-}
-
-// Every field but the remark and the limits was seen.
-fn all_seen(shape: bool, seen: [bool; 7]) -> bool
-    ensures { result ≡ all_seen shape seen }
-{
-    seen[0] && (seen[1] && (seen[2] && (seen[3] && (shape || seen[4]))))
-}
-
-// A refusal: its number alone.
-fn refused(number: u8) -> Fields
-    ensures { result ≡ refused_by number }
-{
-    Fields {
-        number,
-        at: [0; 7],
-        long: [0; 7],
-        seen: [false; 7],
-    }
+    let (content, rest) = behind.split_at(long);
+    Ok(Met {
+        slot,
+        content,
+        rest,
+    })
 }
 
 // The tag that the next field may not be below: this one where tags ascend, else none.
 fn lowest_after(in_order: bool, tag: u8) -> u8
     ensures { result ≡ pick in_order tag 0 }
 {
-    if in_order {
-        return tag;
-    }
-    0
+    if in_order { tag } else { 0 }
 }
 
-// The walk over a file, field by field from the front, then 6.
-fn walk(s: &[u8], shape: bool, in_order: bool) -> Fields
-    ensures { HoldsBy in_order shape s.now result }
+// The walk over a file, field by field from the front. Which fields are absent is not looked at.
+fn walk(s: &[u8], shape: bool, in_order: bool) -> Result<Slots<'_>, Refusal>
+    ensures { FieldsMet in_order shape s.now result }
 {
-    let mut at = [0usize; 7];
-    let mut long = [0usize; 7];
-    let mut seen = [false; 7];
-    let mut low = 0u8;
-    let mut next = 0;
-    while s.len() - next > 0 {
-        let tag = s[next];
-        let front = step(&s[next..], shape, seen, low);
-        match front {
-            Front::Fault(number) => {
-                return refused(number);
-            }
-            Front::Met { slot, long: n } => {
-                at[slot] = next + 3;
-                long[slot] = n;
-                seen[slot] = true;
-                low = lowest_after(in_order, tag);
-                next = next + 3 + n;
-            }
-        }
+    let mut met = Slots { slots: [None; 7] };
+    let mut lowest = 0;
+    let mut rest = s;
+    // A `while`: each field says how long it is, so no iterator gives them.
+    while let [tag, ..] = rest {
+        let field = step(rest, shape, met, lowest)?;
+        met.slots[field.slot] = Some(field.content);
+        lowest = lowest_after(in_order, *tag);
+        rest = field.rest;
     }
-    if all_seen(shape, seen) {
-        Fields {
-            number: 0,
-            at,
-            long,
-            seen,
-        }
-    } else {
-        refused(6)
-    }
+    Ok(met)
 }
 
-// The fields of a plate list, or its refusal.
-pub fn walk_list(s: &[u8]) -> Fields
-    ensures { Holds false s.now result }
+/// The fields of a plate list, or its refusal.
+#[tactic(auto, using(crate::proofs::Named::list_walked))]
+pub fn walk_list(s: &[u8]) -> Result<ListFields<'_>, Refusal>
+    ensures { ListWalked s.now result }
 {
-    walk(s, false, true)
+    walk(s, false, true)?.list_fields()
 }
 
-// The fields of a shape, or its refusal.
-pub fn walk_shape(s: &[u8]) -> Fields
-    ensures { Holds true s.now result }
+/// The fields of a shape, or its refusal.
+#[tactic(auto, using(crate::proofs::Named::shape_walked))]
+pub fn walk_shape(s: &[u8]) -> Result<ShapeFields<'_>, Refusal>
+    ensures { ShapeWalked s.now result }
 {
-    walk(s, true, true)
+    walk(s, true, true)?.shape_fields()
 }
 
-// The fields of an older file, in any order, or its refusal.
-pub fn walk_older(s: &[u8], shape: bool) -> Fields
+/// The fields of an older file, in any order, or its refusal.
+#[tactic(auto, using(crate::proofs::Named::older_walked))]
+pub fn walk_older(s: &[u8], shape: bool) -> Result<Slots<'_>, Refusal>
     ensures { HoldsBy false shape s.now result }
 {
-    walk(s, shape, false)
+    walk(s, shape, false)?.all_there(shape)
 }
 
-// The content of a slot; empty where the field is absent.
-pub fn content(s: &[u8], f: Fields, slot: usize) -> &[u8]
-    requires { (slot < 7) × Within s.now f }
-    ensures { result.now ≡ bytes_of s.now f slot }
+/// The first byte; 0 where there is none.
+pub fn first(bytes: &[u8]) -> u8
+    ensures { result ≡ head bytes.now }
 {
-    let at = f.at[slot];
-    let end = at + f.long[slot];
-    &s[at..end]
+    bytes.first().copied().unwrap_or(0)
 }
 
-// Byte `i` of a slot's content; 0 behind its end.
-pub fn byte_of(s: &[u8], f: Fields, slot: usize, i: usize) -> u8
-    requires { (slot < 7) × Within s.now f }
-    ensures { result ≡ get_or (bytes_of s.now f slot) i 0 }
+/// The first two bytes as a number, high byte first; 0 in place of one that is not there.
+pub fn number(bytes: &[u8]) -> usize
+    ensures { result ≡ word bytes.now }
 {
-    let c = content(s, f, slot);
-    if i < c.len() { c[i] } else { 0 }
-}
-
-// The first two bytes of a slot's content as a number, high byte first.
-pub fn number_of(s: &[u8], f: Fields, slot: usize) -> usize
-    requires { (slot < 7) × Within s.now f }
-    ensures { result ≡ word (bytes_of s.now f slot) }
-{
-    256 * wide(byte_of(s, f, slot, 0)) + wide(byte_of(s, f, slot, 1))
+    let second = bytes.get(1).copied().unwrap_or(0);
+    joined(first(bytes), second)
 }

@@ -1,18 +1,16 @@
 //! Reads an older plate list or shape file from standard input and writes it with its fields in tag order, or prints its refusal.
 #![tactic(auto)]
 
-use console::{read_full, say, say_number};
+use console::{read_full, say};
 use fields::ordering::order_fields;
 use std::io;
 
-// Writes the file in order, by way of `out`.
+// Writes the file in order, by way of `out`, or its refusal.
 fn show(rt: &impl Print, file: &[u8], out: &mut [u8]) -> io::Result<()> {
-    let ordered = order_fields(file, out);
-    let long = ordered.long;
-    if ordered.number != 0 {
-        return say_number(rt, b"refused ", ordered.number as u64);
+    match order_fields(file, out) {
+        Ok(long) => say(rt, &out[..long]),
+        Err(refusal) => println!(rt; "{refusal}"),
     }
-    say(rt, &out[..long])
 }
 
 // Of longer input only the first 1,024 bytes are read, which have the answer of the whole (`TagOrder.front`). The memory

@@ -1,12 +1,24 @@
 //! Walks short files, with the number of each; puts older ones in order; then writes fields and shows their bytes.
 #![tactic(auto)]
 
-ghost use Rattle.std.specs.Prelude.{◌≡◌, ◌≤◌, length, take};
+ghost use Rattle.std.specs.Prelude.{◌≡◌, ◌≤◌, length};
+ghost use Rattle.refusals.specs.Numbers.{fault_of};
 
 use fields::ordering::order_fields;
 use fields::writing::write_field;
 use fields::{walk_list, walk_older, walk_shape};
+use refusals::Refusal;
 use std::io;
+
+// The number of an answer: 0 where nothing is refused.
+fn fault<T>(answer: &Result<T, Refusal>) -> u8
+    ensures { result ≡ fault_of answer.now }
+{
+    match answer {
+        Ok(_) => 0,
+        Err(refusal) => refusal.number(),
+    }
+}
 
 // Writes a line: the file, the case and the number.
 fn show(rt: &impl Print, file: &[u8], label: &[u8], number: u8) -> io::Result<()> {
@@ -17,37 +29,31 @@ fn show(rt: &impl Print, file: &[u8], label: &[u8], number: u8) -> io::Result<()
 }
 
 fn list(rt: &impl Print, label: &[u8], s: &[u8]) -> io::Result<()> {
-    let f = walk_list(s);
-    show(rt, b"list ", label, f.number)
+    show(rt, b"list ", label, fault(&walk_list(s)))
 }
 
 fn shape(rt: &impl Print, label: &[u8], s: &[u8]) -> io::Result<()> {
-    let f = walk_shape(s);
-    show(rt, b"shape ", label, f.number)
+    show(rt, b"shape ", label, fault(&walk_shape(s)))
 }
 
 // An older file of either kind, in any order.
 fn older(rt: &impl Print, label: &[u8], s: &[u8], is_shape: bool) -> io::Result<()> {
-    let f = walk_older(s, is_shape);
-    show(rt, b"older ", label, f.number)
+    show(rt, b"older ", label, fault(&walk_older(s, is_shape)))
 }
 
-// Writes a field of `long` zeros where there is room for it, and gives the place behind it.
-fn zeros(out: &mut [u8], at: usize, tag: u8, long: usize) -> usize
-    ensures in_bounds { result ≤ length out.new }
-    ensures front { result ≡ length (take result out.new) }
+// Writes fields of zeros, of these tags and lengths, and gives the place behind them; 0 where there is no room.
+fn zeros(out: &mut [u8], fields: &[(u8, usize)]) -> usize
+    ensures { result ≤ length out.new }
 {
     let content = [0u8; 4096];
-    if long > 4096 {
-        return 0;
+    let mut at = 0;
+    for (tag, long) in fields {
+        if *long > content.len() || out.len() - at < 3 + *long {
+            return 0;
+        }
+        at = write_field(out, at, *tag, &content[..*long]);
     }
-    if out.len() < 3 + long {
-        return 0;
-    }
-    if out.len() - (3 + long) < at {
-        return 0;
-    }
-    write_field(out, at, tag, &content[..long])
+    at
 }
 
 fn long_list(
@@ -58,15 +64,18 @@ fn long_list(
     remark: usize,
     limits: usize,
 ) -> io::Result<()> {
+    let fields = [
+        (0x01, 2),
+        (0x02, 1),
+        (0x03, strips),
+        (0x04, order),
+        (0x05, 1),
+        (0x06, remark),
+        (0x07, limits),
+    ];
     let mut s = [0u8; 4096];
-    let mut at = zeros(&mut s, 0, 0x01, 2);
-    at = zeros(&mut s, at, 0x02, 1);
-    at = zeros(&mut s, at, 0x03, strips);
-    at = zeros(&mut s, at, 0x04, order);
-    at = zeros(&mut s, at, 0x05, 1);
-    at = zeros(&mut s, at, 0x06, remark);
-    at = zeros(&mut s, at, 0x07, limits);
-    list(rt, label, &s[..at])
+    let n = zeros(&mut s, &fields);
+    list(rt, label, &s[..n])
 }
 
 fn long_shape(
@@ -76,13 +85,16 @@ fn long_shape(
     rights: usize,
     remark: usize,
 ) -> io::Result<()> {
+    let fields = [
+        (0x11, 2),
+        (0x12, 2),
+        (0x13, angles),
+        (0x14, rights),
+        (0x15, remark),
+    ];
     let mut s = [0u8; 4096];
-    let mut at = zeros(&mut s, 0, 0x11, 2);
-    at = zeros(&mut s, at, 0x12, 2);
-    at = zeros(&mut s, at, 0x13, angles);
-    at = zeros(&mut s, at, 0x14, rights);
-    at = zeros(&mut s, at, 0x15, remark);
-    shape(rt, label, &s[..at])
+    let n = zeros(&mut s, &fields);
+    shape(rt, label, &s[..n])
 }
 
 // Where the walk over a list ends.
@@ -505,8 +517,7 @@ fn show_bytes(rt: &impl Print, s: &[u8]) -> io::Result<()> {
 
 // Puts an older file in order, and shows the number and the bytes of the memory lent.
 fn order_into(rt: &impl Print, label: &[u8], s: &[u8], out: &mut [u8]) -> io::Result<()> {
-    let ordered = order_fields(s, out);
-    show(rt, b"order ", label, ordered.number)?;
+    show(rt, b"order ", label, fault(&order_fields(s, out)))?;
     show_bytes(rt, out)
 }
 
@@ -553,7 +564,7 @@ fn written(rt: &impl Print) -> io::Result<()> {
 fn long_written(rt: &impl Print) -> io::Result<()> {
     let mut out = [0u8; 4096];
     out[0] = 0xff;
-    zeros(&mut out, 1, 0x14, 258);
+    zeros(&mut out[1..], &[(0x14, 258)]);
     show_bytes(rt, &out[..6])
 }
 

@@ -1,11 +1,10 @@
--- `fields::walk` holds what the walk over the file gives. The invariant: what is left to walk gives the file's answer.
-use Prim.Native.Nat.{◌-◌}
-use lib.ListN.{length}
+-- `fields::walk` meets the fields of the file. The invariant: what is left to walk gives the file's answer.
+use Rattle.std.proofs.Common.{length}
 use Rattle.fields.proofs.Walked.{Going}
 use Rattle.fields.proofs.walk.Given as goal
 
-abbrev pub invariant-loop-next : goal.invariant-loop-next
-invariant-loop-next l = Going l.in_order l.shape l.s l.at l.long l.seen l.low l.next
+abbrev pub invariant-loop-rest : goal.invariant-loop-rest
+invariant-loop-rest l = Going l.in_order l.shape l.s l.rest l.met l.lowest
 
-abbrev pub decreases-loop-next : goal.decreases-loop-next
-decreases-loop-next l = length l.s - l.next
+abbrev pub decreases-loop-rest : goal.decreases-loop-rest
+decreases-loop-rest l = length l.rest

@@ -1,0 +1,26 @@
+-- `fields::step` meets the field at the front: its content and what is behind it are lent from the file.
+use Rattle.std.proofs.Common.{rules, arith, ◌≡◌, ℕ, ◌+◌, get_or, sym, ap, ◌∙◌}
+use lib.Dec.{ltb}
+use lib.ListN.{take, drop}
+use lib.Seq.{drop-drop}
+use Rattle.finite.proofs.Lent.{rest_lent}
+use Rattle.fields.specs.Files.{head_long}
+use Rattle.fields.specs.Rules.{is_met, slot_of}
+use Rattle.fields.proofs.Turns.{no_fault}
+use Rattle.fields.proofs.step.Goals as goal
+
+pub returns : goal.returns
+returns c =
+    let s = c.args.s.now in
+    let n = c.joined-long.result in
+    let e : n ≡ head_long s = c.joined-long.ensures in
+    record {
+      number =
+          sym (no_fault c.args.shape (is_met c.args.before.slots (slot_of c.args.shape (get_or s 0 0))) (ltb (get_or s 0 0) c.args.lowest) s
+          (record { tag = search rules; new = search rules; above = search rules; long = search rules; size = omega arith }));
+      met = record {
+        slot = search rules;
+        content = c.split_at.ensures.front ∙ ap (take n) (rest_lent s 3) ∙ ap (λ (m : ℕ). take m (drop 3 s)) e;
+        rest = c.split_at.ensures.back ∙ ap (drop n) (rest_lent s 3) ∙ drop-drop n 3 s ∙ ap (λ (m : ℕ). drop (3 + m) s) e;
+      };
+    }
