@@ -2,12 +2,12 @@
 use mathlib.Core.Path.{◌≡◌, refl, sym, ap, subst, ◌∙◌}
 use mathlib.Core.Bool.{true}
 use Rattle.std.proofs.Common.{Result}
-use mathlib.Core.List.{List, [], ◌∷◌, ◌++◌, append-nil, append_assoc}
+use mathlib.Core.List.{List, [], ◌∷◌, ◌++◌, append_assoc}
 use mathlib.Core.Logic.{⊎_elim}
 use Prim.Native.Nat.{ℕ, suc, ◌+◌, ◌-◌, ◌*◌, ◌≤◌, ◌<◌}
 use native.Mathlib.Omega.{arith}
-use lib.ListN.{length, get_or, take, drop, set, length-set, length-append, length-drop, drop_of_length-le}
-use lib.Seq.{take_all, take-suc, take-suc-set, take-set-lt, length-take-le}
+use lib.ListN.{length, get_or, take, drop, set, length-set, length-append, length-drop}
+use lib.Seq.{take_all, take-suc-set, take-set-lt, length-take-le}
 use Rattle.finite.proofs.Tests.{either, equal_or_not, not_true_false}
 use Rattle.embedding.specs.Plates.{is_in, distinct, Plate, plate}
 use Rattle.embedding.specs.Read.{place_of, Reads}
@@ -15,7 +15,6 @@ use Rattle.embedding.specs.Edits.{laid, put_before, renamed}
 use Rattle.embedding.specs.Arrays.{Front, Appended, row_in, Listed}
 use Rattle.refusals.specs.declared.Refusal.{Refusal}
 use Rattle.embedding.specs.declared.Plate.{Plate as Held}
-use Rattle.embedding.proofs.Fronts.{front}
 use Rattle.embedding.proofs.Placing.{put_none}
 use Rattle.embedding.proofs.Flat.{place_none, place_some, put_placed, renamed_none, renamed_placed}
 use Rattle.embedding.proofs.Answers.{place_hit, place_miss}
@@ -38,11 +37,6 @@ front_one {l} {xs} at a f e k =
           ∙ take-suc-set xs at a (omega (arith, f.size)) ∙ ap (λ (m : List ℕ). m ++ (a ∷ [])) (front_take f e);
     }
 
-pub front_two : {l xs : List ℕ} (at a b : ℕ) → Front l xs → length l ≡ at → at + 1 < 256 → Front (l ++ (a ∷ (b ∷ []))) (set (set xs at a) (at + 1) b)
-front_two {l} at a b f e k =
-    front_same (append_assoc l (a ∷ []) (b ∷ []))
-    (front_one (at + 1) b (front_one at a f e (omega arith)) (omega (arith, length-append l (a ∷ []))) k)
-
 -- one of it changed
 pub front_set : {l xs : List ℕ} (i y : ℕ) → Front l xs → i < length l → Front (set l i y) (set xs i y)
 front_set {l} {xs} i y f k =
@@ -50,30 +44,6 @@ front_set {l} {xs} i y f k =
       size = length-set xs i y ∙ f.size;
       front = ap (λ (j : ℕ). take j (set xs i y)) (length-set l i y) ∙ take-set-lt (length l) xs i y k ∙ ap (λ (m : List ℕ). set m i y) f.front;
     }
-
--- a list written behind it, an element at a time
-pub appending_start : (at : ℕ) (s xs : List ℕ) → Appended at (take 0 s) xs xs
-appending_start at s xs l f e = front_same (sym (append-nil l)) f
-
-pub appending_more : {at : ℕ} {xs ys : List ℕ} (s : List ℕ) (i : ℕ) → Appended at (take i s) xs ys → i < length s → at + length s ≤ 256 → Appended at (take (i + 1) s) xs (set ys (at + i) (get_or s i 0))
-appending_more {at} {xs} {ys} s i h k fits l f e =
-    front_same
-    (append_assoc l (take i s) (get_or s i 0 ∷ []) ∙ ap (λ (m : List ℕ). l ++ m) (sym (take-suc s i 0 k) ∙ ap (λ (j : ℕ). take j s) {x = suc i} {y = i + 1} (omega arith)))
-    (front_one (at + i) (get_or s i 0) (h l f e) (omega (arith, length-append l (take i s), length-take-le i s (omega arith))) (omega arith))
-
-pub appending_done : {at : ℕ} {xs ys : List ℕ} (s : List ℕ) (i : ℕ) → Appended at (take i s) xs ys → length s ≤ i → Appended at s xs ys
-appending_done s i h k l f e = front_same (ap (λ (m : List ℕ). l ++ m) (take_all i s k)) (h l f e)
-
--- where x stands, an element at a time
-module _ (x : ℕ) (s : List ℕ) (i : ℕ) (so_far : i + place_of x (drop i s) ≡ place_of x s) where
-  pub place_here : i < length s → x ≡ get_or s i 0 → i ≡ place_of x s
-  place_here k e = omega (arith, so_far, ap (place_of x) (front s i k), place_hit x (get_or s i 0) (drop (i + 1) s) e)
-
-  pub place_on : i < length s → (x ≡ get_or s i 0 → ⊥) → i + 1 + place_of x (drop (i + 1) s) ≡ place_of x s
-  place_on k e = omega (arith, so_far, ap (place_of x) (front s i k), place_miss x (get_or s i 0) (drop (i + 1) s) e)
-
-  pub place_end : length s ≤ i → i ≡ place_of x s
-  place_end k = omega (arith, so_far, ap (place_of x) (drop_of_length-le s k))
 
 pub place_most : (x : ℕ) (s : List ℕ) → place_of x s ≤ length s
 place_most x [] = omega arith
@@ -125,9 +95,6 @@ pub record Laying (places degrees : List ℕ) (v at : ℕ) (all : List ℕ) : Ty
   pub done : Front (laid v (row_in places degrees)) all
   pub long : length (laid v (row_in places degrees)) ≡ at
   pub most : at ≤ 4 * v
-
-pub laying_start : (places degrees zeros : List ℕ) → length zeros ≡ 256 → Laying places degrees 0 0 zeros
-laying_start places degrees zeros e = record { done = front_none zeros e; long = refl; most = omega arith }
 
 row_long : (places degrees : List ℕ) (v : ℕ) → get_or degrees v 0 ≤ 4 → length places ≡ 256 → v < 64 → length (row_in places degrees v) ≡ get_or degrees v 0
 row_long places degrees v few size room = length-take-le (get_or degrees v 0) (drop (4 * v) places) (omega (arith, length-drop (4 * v) places))

@@ -10,10 +10,13 @@ use lib.Seq.{ext_get_or, get_or-take, length-take-le}
 use Rattle.embedding.specs.Plates.{is_in, Plate, plate, darts, twin, ends_at, degree, part_of, distinct}
 use Rattle.embedding.specs.Steps.{Few}
 use Rattle.embedding.specs.Meant.{StandFor, held, Accepted}
+use Rattle.embedding.specs.Read.{meant, Stands, Standing}
+use Rattle.embedding.specs.declared.Plate.{Plate as Held}
 use Rattle.embedding.specs.Edits.{laid, put_before, renamed, split, hang, join}
 use Rattle.embedding.specs.Arrays.{Front, Appended, row_in, Listed}
 use Rattle.embedding.proofs.Rotation.{Ordered, twin_dart, own_part, leaves_below}
 use Rattle.embedding.proofs.Faultless.{Faultless, faultless}
+use Rattle.embedding.proofs.Answers.{faces_fit}
 use Rattle.embedding.proofs.Degrees.{most_over, degree_most, darts_few}
 use Rattle.embedding.proofs.Counting.{few_at, few_most}
 use Rattle.embedding.proofs.Whole.{PastOrder, part_held}
@@ -51,6 +54,9 @@ module _ {p : Plate} {posts count : ℕ} {ends places degrees : List ℕ} {outer
 
   pub held_darts : count ≤ 256
   held_darts = omega (arith, s.dart_count, darts_few p f o)
+
+  pub held_faces : face_total ≤ 66
+  held_faces = omega (arith, s.face_count, faces_fit p f o)
 
   few : Few p.posts p.ends degrees
   few = record { table = s.post_degrees; most = degree_most p f }
@@ -211,3 +217,10 @@ module _ {p : Plate} {posts count : ℕ} {ends places degrees : List ℕ} {outer
         half_front : Front half_order half
         half_front =
             front_same (ap₂ (λ (x y : ℕ). put_before x y (take count order)) eu en ∙ ap (put_before (twin e) (suc (darts p))) (front_take front order_long)) c2
+
+-- the plate that a plate as held stands for, and no other
+pub standing : (q : Held) → Standing q
+standing q = (meant q, q.stands, q.accepted)
+
+pub stands-meant : (q : Held) {p : Plate} → Stands q p → Accepted p → meant q ≡ p
+stands-meant q s a = held_is s a

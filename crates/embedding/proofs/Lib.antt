@@ -14,6 +14,7 @@ pub mod Reaching
 pub mod Rounds
 pub mod Labelling
 pub mod Numbering
+pub mod Numbers
 pub mod Whole
 pub mod Answers
 pub mod Loops

@@ -14,7 +14,7 @@ use Rattle.finite.specs.Tables.{Table, up_to}
 use Rattle.finite.proofs.Tables.{table_cong, table_set, up_below, up_cong}
 use Rattle.finite.proofs.Tests.{equal_or_not, or_right, first_none, first_assoc, when_none}
 use Rattle.embedding.specs.Plates.{pick, first_of, when, Plate, darts, degree_from, degree, all_below, over_four, plate_fault}
-use Rattle.embedding.specs.Pass.{no_strips, add_end, add_strip, go_on, state_of, stopped_after, first_met, answer_of, strips_fault, early_fault, late_fault, pass_fault, GoneOn, Answered}
+use Rattle.embedding.specs.Pass.{no_strips, add_strip, go_on, state_of, stopped_after, first_met, answer_of, strips_fault, early_fault, late_fault, pass_fault, GoneOn, Answered}
 use Rattle.embedding.specs.Steps.{Few}
 use Rattle.embedding.specs.declared.strips.Strips.{Strips}
 use Rattle.embedding.proofs.Fronts.{two_front}
@@ -40,9 +40,6 @@ stopped-after k n es = go (dec_le (2 * k) (length es))
     go (no m) = let all : length es ≤ 2 * k = omega arith in ap₂ (λ (a b : List ℕ). go_on n (state_of n a) b) (take_all (2 * k) es all) (drop_of_length-le es all)
 
 -- both ends of a strip
-pub ends_added : (n a b : ℕ) (s first both : Strips) → first ≡ add_end n a s → both ≡ add_end n b first → both ≡ add_end n b (add_end n a s)
-ends_added n a b s first both p q = q ∙ ap (add_end n b) p
-
 -- a loop over the strips
 go_short : (n : ℕ) (s : Strips) (es : List ℕ) → length es ≤ 1 → go_on n s es ≡ s
 go_short n s [] l = refl

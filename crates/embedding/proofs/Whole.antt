@@ -1,11 +1,11 @@
 -- From the answers of the steps to the plate's fault, and to the plate.
 use mathlib.Core.Path.{◌≡◌, refl, sym, ap, ap₂, subst, ◌∙◌}
-use mathlib.Core.Bool.{Bool, true, false, ◌&&◌, ◌||◌, not}
+use mathlib.Core.Bool.{true, ◌||◌, not}
 use Rattle.std.proofs.Common.{Err}
 use mathlib.Core.List.{List, [], ◌∷◌}
 use Prim.Native.Nat.{ℕ, ◌+◌, ◌*◌, ◌/◌, ◌%◌, ◌≤◌, ◌<◌}
 use native.Mathlib.Omega.{arith}
-use borrow.Author.Tests.{eqb-false, eq-eqb, ne_eqb, ltb-false, le-leb, lt-leb}
+use borrow.Author.Tests.{eqb-false, eq-eqb, ne_eqb, ltb-false, lt-leb}
 use lib.Dec.{eqb, ltb}
 use lib.ListN.{length, get_or, take, drop, length-take, length-drop}
 use lib.Seq.{get_or-take, get_or-drop, ext_get_or}
@@ -21,22 +21,15 @@ use Rattle.embedding.specs.Pass.{strips_fault, early_fault, late_fault}
 use Rattle.embedding.specs.Read.{Follows, face_size, Past, Reads}
 use Rattle.refusals.specs.Numbers.{number_of}
 use Rattle.refusals.specs.declared.Refusal.{Refusal}
-use Rattle.refusals.specs.declared.Refusal.TheVariants.{ClockwiseOrder, OuterDart, NotConnected, NotPlane}
+use Rattle.refusals.specs.declared.Refusal.TheVariants.{NotPlane}
 use Rattle.embedding.proofs.Faces.{faces_distinct, faces_below}
 use Rattle.embedding.proofs.Counting.{few_at, few_most}
 use Rattle.embedding.proofs.OnePass.{strips_none, fault_parts}
 use Rattle.embedding.proofs.Rotation.{Ordered, length_part, leaves_below, twin_dart, after_below, after_one}
 
--- 0 is no refusal's number
-pub number_some : (e : Refusal) → number_of e ≡ 0 → ⊥
-number_some e h = grind arith
-
 -- a refusal
 refused : (p : Plate) (e : Refusal) → plate_fault p ≡ number_of e → Reads p (Err e)
 refused p e h = record { number = sym h; plate = tt }
-
-pub early_refused : (p : Plate) (e : Refusal) → number_of e ≡ early_fault p.posts p.ends → (number_of e ≡ 0 → ⊥) → Reads p (Err e)
-early_refused p e q n = refused p e (fault_parts p ∙ ap (λ (a : ℕ). first_of a (first_of (strips_fault p) (late_fault p))) (sym q) ∙ first_some (number_of e) (first_of (strips_fault p) (late_fault p)) n)
 
 -- refusals 7 and 8 not met
 pub record Early (n : ℕ) : Type 0 where
@@ -60,9 +53,6 @@ module _ (p : Plate) {degrees : List ℕ} (h : Past p.posts p.ends degrees) wher
   late_is : plate_fault p ≡ late_fault p
   late_is = past_8 p h.early ∙ ap (λ (a : ℕ). first_of a (late_fault p)) (h.strips p.order p.outer)
 
-  pub refused_12 : eqb (length p.order) (darts p) && parts_ok p.posts 0 p ≡ false → Reads p (Err ClockwiseOrder)
-  refused_12 e = refused p ClockwiseOrder (late_is ∙ rw e)
-
   pub ends_below : all_below p.posts p.ends ≡ true
   ends_below = (strips_none p (h.strips p.order p.outer)).0
 
@@ -73,15 +63,9 @@ pub record PastOrder (p : Plate) (degrees : List ℕ) : Type 0 where
   pub parts : true ≡ parts_ok p.posts 0 p
 
 module _ {p : Plate} {degrees : List ℕ} (h : PastOrder p degrees) where
-  pub refused_13 : darts p ≤ p.outer → Reads p (Err OuterDart)
-  refused_13 l = refused p OuterDart (late_is p h.past ∙ rw (eq-eqb (length p.order) (darts p) h.long, sym h.parts, le-leb (darts p) p.outer l))
-
   module _ (inner : p.outer < darts p) where
     past_13 : plate_fault p ≡ first_of (when (not (connected p)) 14) (when (not (is_plane p)) 15)
     past_13 = late_is p h.past ∙ rw (eq-eqb (length p.order) (darts p) h.long, sym h.parts, lt-leb (darts p) p.outer inner)
-
-    pub refused_14 : (length (reach p.posts p (0 ∷ [])) ≡ p.posts → ⊥) → Reads p (Err NotConnected)
-    refused_14 q = refused p NotConnected (past_13 ∙ rw (ne_eqb (length (reach p.posts p (0 ∷ []))) p.posts q))
 
     module _ (joined : length (reach p.posts p (0 ∷ [])) ≡ p.posts) where
       past_14 : plate_fault p ≡ when (not (is_plane p)) 15

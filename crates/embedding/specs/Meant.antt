@@ -1,5 +1,5 @@
 -- The plate that the fields of a plate as held stand for.
-use Rattle.std.specs.Prelude.{◌≡◌, true, false, List, [], ◌∷◌, ℕ, zero, suc, ◌*◌, ◌/◌, ◌%◌, eqb, length, get_or, take, drop}
+use Rattle.std.specs.Prelude.{◌≡◌, true, false, List, [], ◌∷◌, ℕ, suc, ◌*◌, ◌/◌, ◌%◌, eqb, length, get_or, take, drop}
 use Rattle.finite.specs.Tables.{Table, up_to}
 use Rattle.finite.specs.Walks.{lowest}
 use Rattle.embedding.specs.Plates.{Plate, plate, darts, degree, part_of, after, face_of, faces, plate_fault}

@@ -1,11 +1,11 @@
 -- What a plate that was read holds.
-use Rattle.std.specs.Prelude.{◌≡◌, Result, IfOk, Bool, true, false, List, [], ◌∷◌, ℕ, suc, ◌+◌, ◌%◌, ◌≤◌, ◌<◌, eqb, ltb, length, get_or, replicate}
+use Rattle.std.specs.Prelude.{◌≡◌, Result, IfOk, Bool, false, List, ℕ, ◌+◌, ◌≤◌, ◌<◌, ltb, length, get_or}
 use Rattle.finite.specs.Tables.{Table, up_to}
 use Rattle.refusals.specs.Numbers.{fault_of}
 use Rattle.refusals.specs.declared.Refusal.{Refusal}
-use Rattle.embedding.specs.Plates.{pick, pick_t, Plate, plate, darts, degree, after, face_of, faces_from, faces, plate_fault}
+use Rattle.embedding.specs.Plates.{pick, Plate, plate, darts, after, face_of, faces_from, faces, plate_fault}
 use Rattle.embedding.specs.Pass.{strips_fault, early_fault}
-use Rattle.embedding.specs.Steps.{Few, place_in}
+use Rattle.embedding.specs.Steps.{Few}
 pub use Rattle.embedding.specs.Meant.{lead, place_of, face_number, face_size, StandFor, held, Accepted}
 use Rattle.embedding.specs.declared.Plate.{Plate as Held}
 use Rattle.embedding.specs.declared.labels.Labelled.{Labelled}

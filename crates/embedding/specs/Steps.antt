@@ -1,8 +1,8 @@
 -- What the steps of reading a plate give.
-use Rattle.std.specs.Prelude.{◌≡◌, Option, is_some, IfSome, Bool, true, false, ◌&&◌, ◌||◌, not, List, ◌∷◌, ℕ, ◌+◌, ◌*◌, ◌/◌, ◌%◌, ◌≤◌, ◌<◌, length, get_or, take, drop}
+use Rattle.std.specs.Prelude.{◌≡◌, Option, is_some, IfSome, Bool, false, ◌&&◌, ◌||◌, not, List, ◌∷◌, ℕ, ◌+◌, ◌*◌, ◌≤◌, ◌<◌, length, get_or, take, drop}
 use Rattle.finite.specs.Tables.{Table, up_to}
 use Rattle.finite.specs.Walks.{orbit}
-use Rattle.embedding.specs.Plates.{pick, is_in, plate, Plate, twin, degree_from, part_of, distinct, all_leave, parts_ok, last_of, just_before, joins}
+use Rattle.embedding.specs.Plates.{pick, is_in, plate, twin, degree_from, distinct, all_leave, parts_ok, last_of, just_before, joins}
 pub use Rattle.embedding.specs.Meant.{place_in}
 use Rattle.embedding.specs.declared.reached.Seen.{Seen}
 

@@ -77,7 +77,13 @@ fn put_before(x: u8, y: u8, s: &[u8]) -> [u8; 256]
 }
 
 // The plate that the first `darts` elements of each list make.
-fn read_more(posts: usize, darts: usize, ends: &[u8], order: &[u8], outer: u8) -> Result<Plate, Refusal>
+fn read_more(
+    posts: usize,
+    darts: usize,
+    ends: &[u8],
+    order: &[u8],
+    outer: u8,
+) -> Result<Plate, Refusal>
     requires { (posts < 256) × (darts ≤ 256) × (darts % 2 ≡ 0) × (length ends.now ≡ 256) × (length order.now ≡ 256) }
     ensures { (p : PlateOf) → p.posts ≡ posts → p.outer ≡ outer → Listed p darts ends.now order.now → Reads p result }
 {
@@ -148,7 +154,11 @@ impl Plate {
         requires { (d < self.darts) × (e < self.darts) }
         ensures { (result ≡ taken (meant self) d e) × (result ≤ 2) }
     {
-        if self.ends[twin_of(d)] == self.ends[twin_of(e)] { 2 } else { 1 }
+        if self.ends[twin_of(d)] == self.ends[twin_of(e)] {
+            2
+        } else {
+            1
+        }
     }
 
     // Whether two darts are there, different and of one face.

@@ -14,6 +14,7 @@ pub struct Walk {
 }
 
 // The faces: each dart's face, the darts that have one, each face's size, how many.
+// `met` stands beside `face`: the plate keeps plain numbers, and an array of `Option<u8>` would have to be copied out into them.
 #[derive(Clone, Copy)]
 pub struct Labelled {
     pub face: [u8; 256],
@@ -32,6 +33,7 @@ impl Walk {
     {
         let mut size = 0u16;
         let mut at = d;
+        // A loop: each dart tells the next, so no iterator gives the darts of a face.
         loop {
             face[at] = number;
             met[at] = true;

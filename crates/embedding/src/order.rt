@@ -82,6 +82,7 @@ pub fn read_order(posts: usize, ends: &[u8], order: &[u8], degrees: [u8; 64]) ->
 fn before_in(x: usize, s: &[u8]) -> u8
     ensures { result ≡ just_before x (last_of s.now) s.now }
 {
+    // A `for`: the element before x is the last where x stands first, so `position` would take a case more.
     let mut prev = s.last().copied().unwrap_or(0);
     for here in s {
         if x == usize::from(*here) {

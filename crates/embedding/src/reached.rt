@@ -5,7 +5,7 @@ ghost use Rattle.embedding.specs.Steps.{Joined, RoundMade};
 
 use crate::order::Ordered;
 
-// The posts reached, and how many.
+// The posts reached, and how many: counting the marks anew would go over all of them after each round.
 #[derive(Clone, Copy)]
 pub struct Seen {
     pub seen: [bool; 64],
@@ -36,10 +36,10 @@ impl Ordered<'_> {
         ensures { RoundMade self.now.ends.now s result }
     {
         let mut r = s;
-        let mut i = 0;
-        while i + 1 < self.ends.len() {
-            r = join(r, self.post_at(i), self.post_at(i + 1));
-            i += 2;
+        let mut left = self.ends;
+        while let [a, b, more @ ..] = left {
+            r = join(r, usize::from(*a), usize::from(*b));
+            left = more;
         }
         r
     }
@@ -51,6 +51,7 @@ impl Ordered<'_> {
         let mut seen = [false; 64];
         seen[0] = true;
         let mut s = Seen { seen, count: 1 };
+        // A loop: how many rounds there are is known only when one adds nothing.
         loop {
             let r = self.round(s);
             if r.count == s.count {

@@ -25,7 +25,13 @@ fn check_counts(posts: usize, ends: &[u8]) -> Result<(), Refusal>
 }
 
 // Refusals 12 to 15, or the plate.
-fn read_rest(posts: usize, ends: &[u8], order: &[u8], outer: u8, degrees: [u8; 64]) -> Result<Plate, Refusal>
+fn read_rest(
+    posts: usize,
+    ends: &[u8],
+    order: &[u8],
+    outer: u8,
+    degrees: [u8; 64],
+) -> Result<Plate, Refusal>
     requires { (length ends.now ≤ 256) × (length ends.now % 2 ≡ 0) × Past posts ends.now degrees }
     ensures { Reads (plate posts ends.now order.now outer) result }
 {
@@ -37,11 +43,19 @@ fn read_rest(posts: usize, ends: &[u8], order: &[u8], outer: u8, degrees: [u8; 6
     if darts <= usize::from(outer) {
         return Err(Refusal::OuterDart);
     }
-    let ordered = Ordered { posts, ends, places, degrees };
+    let ordered = Ordered {
+        posts,
+        ends,
+        places,
+        degrees,
+    };
     if ordered.reach_count() != posts {
         return Err(Refusal::NotConnected);
     }
-    let walk = Walk { darts, next: ordered.next_darts() };
+    let walk = Walk {
+        darts,
+        next: ordered.next_darts(),
+    };
     let labelled = walk.faces();
     let faces = labelled.faces;
     if posts + faces != darts / 2 + 2 {

@@ -5,7 +5,7 @@ ghost use Rattle.embedding.specs.Pass.{no_strips, add_end, add_strip, GoneOn, An
 
 use refusals::Refusal;
 
-// What was met so far: an end that is no post (9), a fifth place taken at a post (11); and how many places are taken at each post, one by each strip end, counted up to four.
+// Two marks and not a `Result`: 9 wins over 11 though 11 may be met first. What was met so far: an end that is no post (9), a fifth place taken at a post (11); and how many places are taken at each post, one by each strip end, counted up to four.
 #[derive(Clone, Copy)]
 pub struct Strips {
     pub stray: bool,

@@ -2,24 +2,26 @@
 #![tactic(auto)]
 
 ghost use Rattle.std.specs.Prelude.{◌≡◌, List, ℕ, ◌%◌, ◌≤◌, length};
+ghost use Rattle.refusals.specs.Numbers.{fault_of};
 ghost use Rattle.embedding.specs.Plates.{plate};
 ghost use Rattle.embedding.specs.Pass.{strips_fault};
 
-use embedding::read_plate;
 use embedding::strips::{answer, go_on, no_strips};
+use embedding::{Plate, read_plate};
+use refusals::Refusal;
 use std::io;
 
-// Writes the degrees of the faces and ends the line.
-fn show_faces(rt: &impl Print, faces: usize, sizes: [u16; 66]) -> io::Result<()>
-    requires { faces ≤ 66 }
-{
-    for size in &sizes[..faces] {
+// Writes 0 and the degrees of the faces, and ends the line.
+fn show_faces(rt: &impl Print, plate: &Plate) -> io::Result<()> {
+    rt.write_all(b" 0")?;
+    let sizes = &plate.sizes[..plate.faces];
+    for size in sizes {
         print!(rt; " {size}")?;
     }
     rt.write_all(b"\n")
 }
 
-// Reads a plate and writes a line: its label, the number, the faces.
+// Reads a plate and writes a line: its label, then the refusal's number, or 0 and the faces.
 fn show(
     rt: &impl Print,
     label: &[u8],
@@ -30,21 +32,17 @@ fn show(
 ) -> io::Result<()>
     requires { (length ends.now ≤ 256) × (length ends.now % 2 ≡ 0) × (length order.now ≤ 256) }
 {
-    let r = read_plate(posts, ends, order, outer);
     rt.write_all(label)?;
-    print!(rt; " {}", r.number)?;
-    let faces = r.plate.faces;
-    let sizes = r.plate.sizes;
-    if faces <= 66 {
-        show_faces(rt, faces, sizes)?;
+    match read_plate(posts, ends, order, outer) {
+        Ok(plate) => show_faces(rt, &plate),
+        Err(refusal) => println!(rt; " {}", refusal.number()),
     }
-    Ok(())
 }
 
 // The answer of a pass over the strips that stops after those of `ends[..at]` and goes on over the rest: that of the whole field.
-fn stopped_at(posts: usize, ends: &[u8], at: usize) -> u8
+fn stopped_at(posts: usize, ends: &[u8], at: usize) -> Result<(), Refusal>
     requires { (posts ≤ 64) × (length ends.now % 2 ≡ 0) × (at % 2 ≡ 0) × (at ≤ length ends.now) }
-    ensures { (o : List ℕ) (x : ℕ) → result ≡ strips_fault (plate posts ends.now o x) }
+    ensures { (o : List ℕ) (x : ℕ) → fault_of result ≡ strips_fault (plate posts ends.now o x) }
 {
     let begun = go_on(posts, no_strips(), &ends[..at]);
     let whole = go_on(posts, begun, &ends[at..]);
@@ -57,10 +55,11 @@ fn show_stopped(rt: &impl Print, label: &[u8], posts: usize, ends: &[u8]) -> io:
 {
     rt.write_all(b"stopped, ")?;
     rt.write_all(label)?;
-    let mut at = 0;
-    while at <= ends.len() {
-        print!(rt; " {}", stopped_at(posts, ends, at))?;
-        at += 2;
+    for strips in 0..ends.len() / 2 + 1 {
+        match stopped_at(posts, ends, 2 * strips) {
+            Ok(()) => print!(rt; " 0")?,
+            Err(refusal) => print!(rt; " {}", refusal.number())?,
+        }
     }
     rt.write_all(b"\n")
 }

@@ -3,7 +3,7 @@ use mathlib.Core.Path.{◌≡◌, sym, ◌∙◌}
 use Rattle.std.proofs.Common.{rules}
 use Rattle.finite.proofs.Tests.{first_some}
 use Rattle.refusals.specs.Numbers.{number_of, fault_of}
-use Rattle.embedding.proofs.Whole.{number_some}
+use Rattle.embedding.proofs.Numbers.{number_some}
 use Rattle.embedding.proofs.Refusing.{hang_is}
 use Rattle.embedding.proofs.Plate.check_hang.Goals as goal
 

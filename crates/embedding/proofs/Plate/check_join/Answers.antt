@@ -1,6 +1,6 @@
 -- `check_join` meets its contract.
 use mathlib.Core.Path.{◌≡◌, sym, ap, ◌∙◌}
-use mathlib.Core.Bool.{true, false}
+use mathlib.Core.Bool.{true}
 use Prim.Native.Nat.{ℕ}
 use native.Mathlib.Omega.{arith}
 use Rattle.std.proofs.Common.{rules}
@@ -9,7 +9,7 @@ use Rattle.refusals.specs.Numbers.{number_of, fault_of}
 use Rattle.embedding.specs.Plates.{first_of, when, ends_at}
 use Rattle.embedding.specs.Edits.{full}
 use Rattle.embedding.specs.Read.{meant}
-use Rattle.embedding.proofs.Whole.{number_some}
+use Rattle.embedding.proofs.Numbers.{number_some}
 use Rattle.embedding.proofs.Refusing.{was_false, join_is}
 use Rattle.embedding.proofs.Plate.check_join.Goals as goal
 

@@ -1,10 +1,7 @@
 -- `all_distinct` meets its contract: what is left answers for the whole.
-use mathlib.Core.Path.{◌≡◌, sym, ap, ◌∙◌}
-use mathlib.Core.List.{List}
-use Prim.Native.Nat.{ℕ, ◌+◌, ◌-◌}
-use lib.ListN.{length, get_or, take, drop}
-use Rattle.finite.proofs.Lent.{rest_lent}
-use Rattle.embedding.specs.Plates.{is_in}
+use mathlib.Core.Path.{sym, ◌∙◌}
+use Prim.Native.Nat.{◌+◌}
+use lib.ListN.{get_or}
 use Rattle.embedding.proofs.Fronts.{distinct_on, distinct_not}
 use Rattle.embedding.proofs.Words.{contained}
 use Rattle.embedding.proofs.order.all_distinct.Goals as goal

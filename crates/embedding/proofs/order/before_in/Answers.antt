@@ -5,7 +5,6 @@ use lib.ListN.{length, get_or}
 use Rattle.std.proofs.Common.{rules}
 use Rattle.embedding.specs.Plates.{just_before}
 use Rattle.embedding.proofs.Fronts.{last_is}
-use native.Mathlib.Omega.{arith}
 use Rattle.embedding.proofs.order.before_in.Goals as goal
 
 pub loop-here-init : goal.loop-here-init

@@ -1,5 +1,5 @@
 -- `flatten` meets its contract: the rows before v are copied.
-use Prim.Native.Nat.{◌*◌, ◌/◌, ◌%◌, ◌≤◌}
+use Prim.Native.Nat.{◌*◌, ◌/◌, ◌%◌}
 use lib.ListN.{get_or}
 use mathlib.Core.List.{[]}
 use Rattle.finite.specs.Tables.{Table, up_to}

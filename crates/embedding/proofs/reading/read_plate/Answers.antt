@@ -9,7 +9,8 @@ use Rattle.embedding.specs.Steps.{Few}
 use Rattle.embedding.specs.Read.{Past}
 use Rattle.embedding.specs.declared.strips.Strips.{Strips}
 use Rattle.embedding.proofs.OnePass.{strips_few}
-use Rattle.embedding.proofs.Whole.{number_some, early, strips_refused}
+use Rattle.embedding.proofs.Whole.{early, strips_refused}
+use Rattle.embedding.proofs.Numbers.{number_some}
 use Rattle.embedding.proofs.reading.read_plate.Goals as goal
 use Rattle.embedding.proofs.reading.read_plate.Goals.{After-answer}
 

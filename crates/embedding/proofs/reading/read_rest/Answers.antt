@@ -1,15 +1,15 @@
 -- `read_rest` meets its contract: the plate from what the steps give.
 use mathlib.Core.Path.{◌≡◌, refl, sym, ap, subst, ◌∙◌}
-use mathlib.Core.List.{List, [], ◌∷◌}
-use Prim.Native.Nat.{ℕ, ◌+◌, ◌<◌, ◌/◌}
+use mathlib.Core.List.{[], ◌∷◌}
+use Prim.Native.Nat.{ℕ, ◌+◌, ◌<◌}
 use native.Mathlib.Omega.{arith}
 use lib.ListN.{length}
 use Rattle.std.proofs.Common.{Some}
 use Rattle.finite.specs.Tables.{Table}
-use Rattle.embedding.specs.Plates.{Plate, plate, darts, faces, reach}
+use Rattle.embedding.specs.Plates.{Plate, plate, darts, reach}
 use Rattle.embedding.specs.Steps.{place_in, OrderRead}
 use Rattle.embedding.specs.Meant.{StandFor, Accepted}
-use Rattle.embedding.specs.Read.{Follows, FacesLabelled, Past}
+use Rattle.embedding.specs.Read.{Follows, FacesLabelled}
 use Rattle.embedding.proofs.Counting.{few_most}
 use Rattle.embedding.proofs.Holding.{held_is, held_stands, held_accepted}
 use Rattle.embedding.proofs.Whole.{Early, early, ends_below, PastOrder, refused_15, no_fault, next_follows, next_one, sizes_first, faces_most}

@@ -1,5 +1,4 @@
 -- `faces` meets its contract: the faces led by darts below d are labelled.
-use Prim.Native.Nat.{◌≤◌}
 use Rattle.embedding.specs.Plates.{Plate}
 use Rattle.embedding.specs.Read.{Follows, Numbered, Fitting}
 use Rattle.embedding.proofs.labels.Walk.faces.Given as goal

@@ -1,5 +1,4 @@
 -- `label_next` meets its contract.
-use mathlib.Core.Path.{◌∙◌}
 use Rattle.embedding.proofs.Numbering.{numbered_more, numbered_kept}
 use Rattle.std.proofs.Common.{rules}
 use native.Mathlib.Omega.{arith}

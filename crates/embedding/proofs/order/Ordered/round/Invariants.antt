@@ -1,13 +1,20 @@
 -- `round` meets its contract.
+use mathlib.Core.Path.{◌≡◌}
+use mathlib.Core.Bool.{true}
 use mathlib.Core.List.{List}
-use Prim.Native.Nat.{ℕ, ◌+◌, ◌-◌, ◌≤◌}
+use Prim.Native.Nat.{ℕ, ◌+◌, ◌≤◌}
 use lib.ListN.{length}
+use Rattle.embedding.specs.Plates.{all_below}
 use Rattle.embedding.specs.Steps.{Marks}
 use Rattle.embedding.proofs.Reaching.{Rounding}
 use Rattle.embedding.proofs.order.Ordered.round.Given as goal
 
-abbrev pub invariant-loop-i : goal.invariant-loop-i
-invariant-loop-i l = ((l' : List ℕ) → Marks l' l.initial.r → Rounding l.self.ends.now l' l.i l.r) × (l.r.count ≤ l.initial.r.count + l.i) × (l.i ≤ length l.self.ends.now)
+abbrev pub invariant-loop-left : goal.invariant-loop-left
+invariant-loop-left l = record {
+  joined : (m : List ℕ) → Marks m l.initial.r → Rounding l.self.ends.now m l.left l.r;
+  below : all_below l.self.posts l.left ≡ true;
+  few : l.r.count + length l.left ≤ l.initial.r.count + length l.self.ends.now;
+}
 
-abbrev pub decreases-loop-i : goal.decreases-loop-i
-decreases-loop-i l = length l.self.ends.now - l.i
+abbrev pub decreases-loop-left : goal.decreases-loop-left
+decreases-loop-left l = length l.left
