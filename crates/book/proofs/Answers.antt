@@ -14,7 +14,8 @@ use Rattle.refusals.specs.declared.Refusal.{Refusal}
 use Rattle.refusals.specs.declared.Refusal.TheVariants.{EntryCut}
 use Rattle.refusals.specs.Numbers.{number_of}
 use Rattle.refusals.proofs.Numbered.{some_number}
-use Rattle.book.specs.Entries.{has_model, listed_of, current, entries_fault, whole, book_fault, entries_of, Entry, entries_in}
+use Rattle.book.specs.declared.Entry.{Entry}
+use Rattle.book.specs.Entries.{has_model, listed_of, current, entries_fault, whole, book_fault, entries_of, entries_in}
 use Rattle.book.specs.Says.{answer_of, revisions_of, AnswerIs}
 use Rattle.book.proofs.Scans.{entries_chunks}
 use Rattle.book.proofs.Chain.{latest_there, latest_nowhere}

@@ -12,7 +12,8 @@ use borrow.Author.Tests.{eqb-true, eqb-false, ltb-true, not-false}
 use Rattle.finite.specs.Base.{when, is_in}
 use Rattle.finite.proofs.Tests.{either, not_both, not_true_false, and_left, and_right, or_left_false, or_right_false, first_none, when_none}
 use Rattle.finite.proofs.Members.{in_none, in_here, in_cases}
-use Rattle.book.specs.Entries.{Entry, has_model, of_model, listed_of, replaced_of, first_not_in, current, entry_fault, entries_fault, latest, is_rising}
+use Rattle.book.specs.declared.Entry.{Entry}
+use Rattle.book.specs.Entries.{has_model, of_model, listed_of, replaced_of, first_not_in, current, entry_fault, entries_fault, latest, is_rising}
 use Rattle.book.specs.Says.{IsCurrent}
 use Rattle.book.proofs.Shifted.{Shifted, first_kept, first_only, first_found, first_not_zero, shifted_on}
 

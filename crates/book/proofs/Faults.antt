@@ -11,7 +11,8 @@ use lib.ListN.{length, get_or, take, drop}
 use borrow.Author.Tests.{eq-eqb, ne_eqb}
 use Rattle.finite.specs.Base.{first_of, when, is_in}
 use Rattle.finite.proofs.Tests.{equal_or_not, first_none, first_some}
-use Rattle.book.specs.Entries.{Entry, entries, listed_of, current, entry_fault, fault_at, entries_fault, whole, entries_of, book_fault, latest, entry_of, entries_in, LastRoom}
+use Rattle.book.specs.declared.Entry.{Entry}
+use Rattle.book.specs.Entries.{entries, listed_of, current, entry_fault, fault_at, entries_fault, whole, entries_of, book_fault, latest, entry_of, entries_in, LastRoom}
 use Rattle.book.specs.Says.{FirstBad, LastCut}
 use Rattle.book.proofs.Chain.{is_latest, rising_unlisted}
 use Rattle.book.proofs.Scans.{one_more, parted}

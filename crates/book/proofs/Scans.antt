@@ -13,7 +13,8 @@ use Rattle.std.specs.Option.{option_map}
 use Rattle.std.specs.Simd.{first_chunks}
 use Rattle.finite.specs.Base.{pick, is_in, word_at}
 use Rattle.finite.proofs.Tests.{eqb_turned}
-use Rattle.book.specs.Entries.{Entry, entry_at, entries, listed_of, entry_of, entries_in}
+use Rattle.book.specs.declared.Entry.{Entry}
+use Rattle.book.specs.Entries.{entry_at, entries, listed_of, entry_of, entries_in}
 
 -- ---- the chains
 module _ (m : ℕ) where

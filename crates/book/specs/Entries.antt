@@ -1,7 +1,7 @@
 -- A book of entries: its refusals 40 to 42, and the current revision of a model.
 use Rattle.std.specs.Prelude.{◌≡◌, Bool, true, false, ◌&&◌, ◌||◌, not, List, [], ◌∷◌, ℕ, zero, suc, ◌+◌, ◌*◌, ◌/◌, ◌%◌, eqb, ltb, length, get_or, map, reverse}
 use Rattle.finite.specs.Base.{pick, first_of, when, is_in, word_at}
-pub use Rattle.book.specs.declared.Entry.{Entry}
+use Rattle.book.specs.declared.Entry.{Entry}
 
 -- entry i of a book, and its first n entries, the last of them first
 abbrev pub entry_at : List ℕ → ℕ → Entry

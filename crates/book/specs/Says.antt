@@ -4,7 +4,8 @@ use Rattle.std.specs.Result.{result_map_both}
 use Rattle.finite.specs.Base.{pick, is_in}
 use Rattle.refusals.specs.declared.Refusal.{Refusal}
 use Rattle.refusals.specs.Numbers.{number_of, fault_of}
-use Rattle.book.specs.Entries.{Entry, entries, has_model, listed_of, replaced_of, current, fault_at, entries_fault, whole, entries_of, book_fault}
+use Rattle.book.specs.declared.Entry.{Entry}
+use Rattle.book.specs.Entries.{entries, has_model, listed_of, replaced_of, current, fault_at, entries_fault, whole, entries_of, book_fault}
 
 -- the answer for model m: the number of the book's refusal, that the model is not there, or its current revision
 abbrev pub answer_of : List ℕ → ℕ → Result (Option ℕ) ℕ

@@ -11,10 +11,10 @@ ghost use Rattle.book.specs.Says.{AnswerIs};
 use refusals::Refusal;
 
 #[derive(Clone, Copy)]
-struct Entry {
-    model: u16,
-    revision: u16,
-    replaced: u16,
+pub struct Entry {
+    pub model: u16,
+    pub revision: u16,
+    pub replaced: u16,
 }
 
 // Six bytes: three numbers, each high byte first.

@@ -1,7 +1,7 @@
 //! Checks a shape file against a plate list. The arguments: the name of the plate list, the name of the shape file.
 #![tactic(auto)]
 
-use console::{open_named, read_named, say, say_number};
+use console::{open_named, read_named};
 use plates::check_shape;
 use std::io;
 use std::io::Read;
@@ -9,15 +9,15 @@ use std::io::Read;
 fn show(rt: &impl Print, list: &[u8], shape: &[u8]) -> io::Result<()> {
     let verdict = check_shape(list, shape);
     if verdict.number != 0 {
-        return say_number(rt, b"refused ", verdict.number as u64);
+        return println!(rt; "refused {}", verdict.number);
     }
-    say(rt, b"sound\n")?;
-    say_number(rt, b"total ", verdict.total as u64)?;
-    say_number(rt, b"fewest ", verdict.fewest as u64)?;
+    rt.write_all(b"sound\n")?;
+    println!(rt; "total {}", verdict.total)?;
+    println!(rt; "fewest {}", verdict.fewest)?;
     if verdict.ours {
-        say(rt, b"ours yes\n")
+        rt.write_all(b"ours yes\n")
     } else {
-        say(rt, b"ours no\n")
+        rt.write_all(b"ours no\n")
     }
 }
 

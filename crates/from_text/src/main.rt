@@ -1,7 +1,7 @@
 //! Writes the shape file of a text. The arguments: the name of the plate list, the name of the text.
 #![tactic(auto)]
 
-use console::{complain, open_named, read_named, say, say_number};
+use console::{complain, open_named, read_named};
 use std::io;
 use std::io::Read;
 use texts::read_text;
@@ -11,9 +11,9 @@ fn show(rt: &impl Print, list: &[u8], text: &[u8], out: &mut [u8]) -> io::Result
     let written = read_text(list, text, out);
     let long = written.long as usize;
     if written.number != 0 {
-        return say_number(rt, b"refused ", written.number as u64);
+        return println!(rt; "refused {}", written.number);
     }
-    say(rt, &out[..long])
+    rt.write_all(&out[..long])
 }
 
 // Of a longer list only the first 4,096 bytes are read, which have the number of the whole (`Files.front`). No text

@@ -1,7 +1,7 @@
 //! Reads a plate list from standard input and prints the listing of its shape, or its refusal.
 #![tactic(auto)]
 
-use console::{read_full, say};
+use console::read_full;
 use plates::write_listing;
 use std::io;
 
@@ -15,7 +15,7 @@ fn show(rt: &impl Print, list: &[u8], text: &mut [u8]) -> io::Result<()> {
     if text.len() < long {
         return Ok(());
     }
-    say(rt, &text[..long])
+    rt.write_all(&text[..long])
 }
 
 // Of longer input only the first 1,024 bytes are read. No accepted list is longer than 745 bytes, so such

@@ -1,14 +1,14 @@
 //! Reads an older plate list or shape file from standard input and writes it with its fields in tag order, or prints its refusal.
 #![tactic(auto)]
 
-use console::{read_full, say};
+use console::read_full;
 use fields::ordering::order_fields;
 use std::io;
 
 // Writes the file in order, by way of `out`, or its refusal.
 fn show(rt: &impl Print, file: &[u8], out: &mut [u8]) -> io::Result<()> {
     match order_fields(file, out) {
-        Ok(long) => say(rt, &out[..long]),
+        Ok(long) => rt.write_all(&out[..long]),
         Err(refusal) => println!(rt; "{refusal}"),
     }
 }

@@ -17,44 +17,42 @@ use Rattle.embedding.proofs.Answers.{place_hit, place_miss, place-in}
 use Rattle.embedding.proofs.Flat.{place_none}
 use Rattle.plates.specs.Listing.{number_of}
 use Rattle.plates.specs.Journal.{Step, Split, Hang, Join}
-use Rattle.replaying.specs.declared.lines.Number.{Number}
-use Rattle.replaying.specs.declared.lines.Number.TheVariants.{Value, NoNumber}
-use Rattle.replaying.specs.declared.lines.Line.{Line}
-use Rattle.replaying.specs.declared.lines.Line.TheVariants.{Taken, NoStep}
-use Rattle.replaying.specs.Lines.{go_on, number_in, split_word, hang_word, join_word, begins_with, split_of, hang_of, join_of, join_in, step_in}
+use Rattle.std.proofs.Common.{Option, Some, None}
+use Rattle.std.specs.Option.{option_map}
+use Rattle.replaying.specs.Lines.{go_on, number_in, split_word, hang_word, join_word, begins_with, join_of, join_in, step_in}
 use Rattle.replaying.specs.Forms.{are_digits, Digits, HasForm, LinesRead}
 
 -- numbers
-abbrev value_of : Number → ℕ
-value_of (Value n) = n
-value_of NoNumber = 0
+abbrev value_of : Option ℕ → ℕ
+value_of (Some n) = n
+value_of None = 0
 
-abbrev is_value : Number → Bool
-is_value (Value n) = true
-is_value NoNumber = false
+abbrev is_value : Option ℕ → Bool
+is_value (Some n) = true
+is_value None = false
 
-go_on_lem : (v : ℕ) (ds : List ℕ) → are_digits ds ≡ true → go_on v ds ≡ Value (min (number_of v ds) 65535)
+go_on_lem : (v : ℕ) (ds : List ℕ) → are_digits ds ≡ true → go_on v ds ≡ Some (min (number_of v ds) 65535)
 go_on_lem v [] e = refl
 go_on_lem v (d ∷ ds) e =
     let p = and_parts (leb 48 d && leb d 57) (are_digits ds) e in
-    ap (λ (b : Bool). pick b (go_on (10 * v + (d - 48)) ds) NoNumber) p.0 ∙ go_on_lem (10 * v + (d - 48)) ds p.1
+    ap (λ (b : Bool). pick b (go_on (10 * v + (d - 48)) ds) None) p.0 ∙ go_on_lem (10 * v + (d - 48)) ds p.1
 
-go_off : (v : ℕ) (ds : List ℕ) → are_digits ds ≡ false → go_on v ds ≡ NoNumber
+go_off : (v : ℕ) (ds : List ℕ) → are_digits ds ≡ false → go_on v ds ≡ None
 go_off v [] e = let z : ◌≡◌ {A = ℕ} 0 1 = cc in absurd (omega arith)
 go_off v (d ∷ ds) e = by (leb 48 d && leb d 57) e (go_off (10 * v + (d - 48)) ds)
   where
-    by : (b : Bool) → b && are_digits ds ≡ false → (are_digits ds ≡ false → go_on (10 * v + (d - 48)) ds ≡ NoNumber) → pick b (go_on (10 * v + (d - 48)) ds) NoNumber ≡ NoNumber
+    by : (b : Bool) → b && are_digits ds ≡ false → (are_digits ds ≡ false → go_on (10 * v + (d - 48)) ds ≡ None) → pick b (go_on (10 * v + (d - 48)) ds) None ≡ None
     by true q rest = rest q
     by false q rest = refl
 
-digits_number : {ds : List ℕ} {n : ℕ} → Digits ds n → number_in ds ≡ Value n
-digits_number {ds} h = from ds h.some ∙ go_on_lem 0 ds h.digits ∙ ap Value h.number
+digits_number : {ds : List ℕ} {n : ℕ} → Digits ds n → number_in ds ≡ Some n
+digits_number {ds} h = from ds h.some ∙ go_on_lem 0 ds h.digits ∙ ap Some h.number
   where
     from : (ds : List ℕ) → 1 ≤ length ds → number_in ds ≡ go_on 0 ds
     from [] l = absurd (omega arith)
     from (d ∷ ds) l = refl
 
-number_digits : (ds : List ℕ) (n : ℕ) → number_in ds ≡ Value n → Digits ds n
+number_digits : (ds : List ℕ) (n : ℕ) → number_in ds ≡ Some n → Digits ds n
 number_digits [] n e = absurd (not_both {b = false} (ap is_value e) refl)
 number_digits (d ∷ ds) n e = ⊎_elim so not_so (either (are_digits (d ∷ ds)))
   where
@@ -90,28 +88,28 @@ space_parts u l =
     there = ⊎_elim (λ h. h) (λ h. absurd (omega (arith, place_none 32 u h))) (either (is_in 32 u))
 
 -- from a line to its form
-abbrev step_of : Line → Step
-step_of (Taken t) = t
-step_of NoStep = Split 0
+abbrev step_of : Option Step → Step
+step_of (Some t) = t
+step_of None = Split 0
 
-abbrev is_taken : Line → Bool
-is_taken (Taken t) = true
-is_taken NoStep = false
+abbrev is_taken : Option Step → Bool
+is_taken (Some t) = true
+is_taken None = false
 
-not_taken : {A : Type 0} {t : Step} → NoStep ≡ Taken t → A
+not_taken : {A : Type 0} {t : Step} → None ≡ Some t → A
 not_taken e = absurd (not_both {b = false} (ap is_taken e) refl)
 
 module _ (s : List ℕ) (t : Step) where
-  as_form : {u : Step} → Taken u ≡ Taken t → HasForm s u → HasForm s t
+  as_form : {u : Step} → Some u ≡ Some t → HasForm s u → HasForm s t
   as_form e = subst (λ (v : Step). HasForm s v) (ap step_of e)
 
-  split_form : (n : Number) → number_in (drop 6 s) ≡ n → s ≡ split_word ++ drop 6 s → split_of n ≡ Taken t → HasForm s t
-  split_form (Value n) h p e = as_form e (record { ds = drop 6 s; text = p; number = number_digits (drop 6 s) n h })
-  split_form NoNumber h p e = not_taken e
+  split_form : (n : Option ℕ) → number_in (drop 6 s) ≡ n → s ≡ split_word ++ drop 6 s → option_map Split n ≡ Some t → HasForm s t
+  split_form (Some n) h p e = as_form e (record { ds = drop 6 s; text = p; number = number_digits (drop 6 s) n h })
+  split_form None h p e = not_taken e
 
-  hang_form : (n : Number) → number_in (drop 5 s) ≡ n → s ≡ hang_word ++ drop 5 s → hang_of n ≡ Taken t → HasForm s t
-  hang_form (Value n) h p e = as_form e (record { ds = drop 5 s; text = p; number = number_digits (drop 5 s) n h })
-  hang_form NoNumber h p e = not_taken e
+  hang_form : (n : Option ℕ) → number_in (drop 5 s) ≡ n → s ≡ hang_word ++ drop 5 s → option_map Hang n ≡ Some t → HasForm s t
+  hang_form (Some n) h p e = as_form e (record { ds = drop 5 s; text = p; number = number_digits (drop 5 s) n h })
+  hang_form None h p e = not_taken e
 
   module _ (p : s ≡ join_word ++ drop 5 s) where
     abbrev u : List ℕ
@@ -120,8 +118,8 @@ module _ (s : List ℕ) (t : Step) where
     abbrev k : ℕ
     k = place_of 32 u
 
-    join_form : (n m : Number) → number_in (take k u) ≡ n → number_in (drop (k + 1) u) ≡ m → k < length u → join_of n m ≡ Taken t → HasForm s t
-    join_form (Value n) (Value m) h q l e =
+    join_form : (n m : Option ℕ) → number_in (take k u) ≡ n → number_in (drop (k + 1) u) ≡ m → k < length u → join_of n m ≡ Some t → HasForm s t
+    join_form (Some n) (Some m) h q l e =
         as_form e
         (record {
           ds = take k u;
@@ -130,37 +128,37 @@ module _ (s : List ℕ) (t : Step) where
           number = number_digits (take k u) n h;
           other = number_digits (drop (k + 1) u) m q;
         })
-    join_form (Value n) NoNumber h q l e = not_taken e
-    join_form NoNumber m h q l e = not_taken e
+    join_form (Some n) None h q l e = not_taken e
+    join_form None m h q l e = not_taken e
 
-    joined_form : (b : Bool) → ltb k (length u) ≡ b → pick b (join_of (number_in (take k u)) (number_in (drop (k + 1) u))) NoStep ≡ Taken t → HasForm s t
+    joined_form : (b : Bool) → ltb k (length u) ≡ b → pick b (join_of (number_in (take k u)) (number_in (drop (k + 1) u))) None ≡ Some t → HasForm s t
     joined_form true h e = join_form (number_in (take k u)) (number_in (drop (k + 1) u)) refl refl (ltb-true k (length u) h) e
     joined_form false h e = not_taken e
 
   form_by : (a b c : Bool) → begins_with split_word s ≡ a → begins_with hang_word s ≡ b → begins_with join_word s ≡ c
-      → pick a (split_of (number_in (drop 6 s))) (pick b (hang_of (number_in (drop 5 s))) (pick c (join_in (drop 5 s)) NoStep)) ≡ Taken t → HasForm s t
+      → pick a (option_map Split (number_in (drop 6 s))) (pick b (option_map Hang (number_in (drop 5 s))) (pick c (join_in (drop 5 s)) None)) ≡ Some t → HasForm s t
   form_by true b c p q r e = split_form (number_in (drop 6 s)) refl (begins_parted split_word s p) e
   form_by false true c p q r e = hang_form (number_in (drop 5 s)) refl (begins_parted hang_word s q) e
   form_by false false true p q r e = joined_form (begins_parted join_word s r) (ltb (place_of 32 (drop 5 s)) (length (drop 5 s))) refl e
   form_by false false false p q r e = not_taken e
 
-  read : step_in s ≡ Taken t → HasForm s t
+  read : step_in s ≡ Some t → HasForm s t
   read = form_by (begins_with split_word s) (begins_with hang_word s) (begins_with join_word s) refl refl refl
 
 -- and back
-joined : {ds es : List ℕ} {n m : ℕ} → Digits ds n → Digits es m → join_in (ds ++ (32 ∷ es)) ≡ Taken (Join n m)
+joined : {ds es : List ℕ} {n m : ℕ} → Digits ds n → Digits es m → join_in (ds ++ (32 ∷ es)) ≡ Some (Join n m)
 joined {ds} {es} {n} {m} h q =
     let w = ds ++ (32 ∷ es) in
     let at = digits_then ds es h.digits in
     let l : place_of 32 w < length w = omega (arith, at, length-append ds (32 ∷ es)) in
-    ap (λ (b : Bool). pick b (join_of (number_in (take (place_of 32 w) w)) (number_in (drop (place_of 32 w + 1) w))) NoStep) (lt-ltb (place_of 32 w) (length w) l)
+    ap (λ (b : Bool). pick b (join_of (number_in (take (place_of 32 w) w)) (number_in (drop (place_of 32 w + 1) w))) None) (lt-ltb (place_of 32 w) (length w) l)
     ∙ ap (λ (k : ℕ). join_of (number_in (take k w)) (number_in (drop (k + 1) w))) at
     ∙ ap₂ (λ (a b : List ℕ). join_of (number_in a) (number_in b)) (take-append_seam ds (32 ∷ es)) (drop-append-add ds (32 ∷ es) 1)
     ∙ ap₂ join_of (digits_number h) (digits_number q)
 
-taken : (s : List ℕ) (t : Step) → HasForm s t → step_in s ≡ Taken t
-taken s (Split n) h = ap step_in h.text ∙ ap split_of (digits_number h.number)
-taken s (Hang n) h = ap step_in h.text ∙ ap hang_of (digits_number h.number)
+taken : (s : List ℕ) (t : Step) → HasForm s t → step_in s ≡ Some t
+taken s (Split n) h = ap step_in h.text ∙ ap (option_map Split) (digits_number h.number)
+taken s (Hang n) h = ap step_in h.text ∙ ap (option_map Hang) (digits_number h.number)
 taken s (Join n m) h = ap step_in h.text ∙ joined h.number h.other
 
 pub lines_read : LinesRead

@@ -1,5 +1,5 @@
 -- Laws that belong to no one function.
-pub mod Digits
+pub mod Capped
 pub mod Words
 pub mod Forms
 pub mod Rows

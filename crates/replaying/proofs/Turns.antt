@@ -18,8 +18,7 @@ use Rattle.plates.specs.declared.Listed.{Listed}
 use Rattle.plates.specs.Files.{list_fault, plate_of}
 use Rattle.plates.specs.Listing.{Gives}
 use Rattle.plates.specs.Journal.{Step, step_fault, list_after, replayed_list, EditWith, EditSays}
-use Rattle.replaying.specs.declared.lines.Line.{Line}
-use Rattle.replaying.specs.declared.lines.Line.TheVariants.{Taken, NoStep}
+use Rattle.std.proofs.Common.{Option, Some, None}
 use Rattle.replaying.specs.declared.replay.Outcome.TheVariants.{Through, Refused, Stopped}
 use Rattle.replaying.specs.declared.replay.Replay.{Replay}
 use Rattle.replaying.specs.Lines.{step_in, lines_of, step_before, steps_in}
@@ -35,9 +34,9 @@ module _ (z : Stand) (ls : List (List ℕ)) (rest : (w : Stand) → (over_lines 
   left_by t true e = rest (on_fault true e z t)
   left_by t false e = refl
 
-  left_line : (x : Line) → (pick (is_through (on_line z x).outcome) (over_lines (on_line z x) ls) (on_line z x)).list ≡ replayed_list z.list (step_before x (steps_in ls))
-  left_line (Taken t) = left_by t (eqb (step_fault (plate_of z.list) t) 0) (step_fault (plate_of z.list) t)
-  left_line NoStep = refl
+  left_line : (x : Option Step) → (pick (is_through (on_line z x).outcome) (over_lines (on_line z x) ls) (on_line z x)).list ≡ replayed_list z.list (step_before x (steps_in ls))
+  left_line (Some t) = left_by t (eqb (step_fault (plate_of z.list) t) 0) (step_fault (plate_of z.list) t)
+  left_line None = refl
 
 list_left : (z : Stand) (ls : List (List ℕ)) → (over_lines z ls).list ≡ replayed_list z.list (steps_in ls)
 list_left z [] = refl
@@ -68,9 +67,9 @@ line_fits j at e = omega (arith, e, place_most 10 (take (length j - at) (drop at
 pub line_ends : (j : List ℕ) (at : ℕ) {n : ℕ} → at < length j → n ≡ place_of 10 (take (length j - at) (drop at j)) → at + n ≤ length j
 line_ends j at l e = omega (arith, line_fits j at e, ap (λ (k : List ℕ). length k) (rest_lent j at), length-drop at j)
 
-line_more : (z : Stand) (x : Line) → (on_line z x).line ≡ z.line + 1
-line_more z (Taken t) = refl
-line_more z NoStep = refl
+line_more : (z : Stand) (x : Option Step) → (on_line z x).line ≡ z.line + 1
+line_more z (Some t) = refl
+line_more z None = refl
 
 -- a line taken: u is what is left of the journal, and n the end of its first line
 module _ {z : Stand} {j : List ℕ} {at : ℕ} {r : Replay} (g : Going z j at r) (l : at < length j)
@@ -176,11 +175,11 @@ module _ (r : Replay) (t : Step) (ready : Ready r) (o o' : List ℕ) (v : Listed
       }
 
 -- the replay after a line
-module _ (r : Replay) {x : Line} where
-  pub line_taken : {t : Step} {more : Replay} → Taken t ≡ x → Goes (on_step (stand_of r) t) more → Goes (on_line (stand_of r) x) more
-  line_taken {more = more} e = subst (λ (y : Line). Goes (on_line (stand_of r) y) more) e
+module _ (r : Replay) {x : Option Step} where
+  pub line_taken : {t : Step} {more : Replay} → Some t ≡ x → Goes (on_step (stand_of r) t) more → Goes (on_line (stand_of r) x) more
+  line_taken {more = more} e = subst (λ (y : Option Step). Goes (on_line (stand_of r) y) more) e
 
-  pub line_stopped : Ready r → NoStep ≡ x → Goes (on_line (stand_of r) x) (record { list = r.list; long = r.long; line = r.line + 1; outcome = Stopped })
+  pub line_stopped : Ready r → None ≡ x → Goes (on_line (stand_of r) x) (record { list = r.list; long = r.long; line = r.line + 1; outcome = Stopped })
   line_stopped h e =
-      subst (λ (y : Line). Goes (on_line (stand_of r) y) (record { list = r.list; long = r.long; line = r.line + 1; outcome = Stopped })) e
+      subst (λ (y : Option Step). Goes (on_line (stand_of r) y) (record { list = r.list; long = r.long; line = r.line + 1; outcome = Stopped })) e
       (record { ready = record { size = h.size; fits = h.fits; accepted = h.accepted }; stand = refl })

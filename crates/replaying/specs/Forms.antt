@@ -1,8 +1,7 @@
 -- What a line that is a step looks like: the word, one space, the number or two numbers with one space between, and nothing else.
-use Rattle.std.specs.Prelude.{◌≡◌, Bool, true, ◌&&◌, List, [], ◌∷◌, ◌++◌, ℕ, ◌≤◌, min, leb, length}
+use Rattle.std.specs.Prelude.{◌≡◌, Bool, true, ◌&&◌, List, [], ◌∷◌, ◌++◌, ℕ, ◌≤◌, min, leb, length, Some}
 use Rattle.plates.specs.Listing.{number_of}
 use Rattle.plates.specs.Journal.{Step, Split, Hang, Join}
-use Rattle.replaying.specs.declared.lines.Line.TheVariants.{Taken}
 use Rattle.replaying.specs.Lines.{split_word, hang_word, join_word, step_in}
 
 -- '0' to '9'
@@ -35,5 +34,5 @@ HasForm s (Join n k) = TwoNumbers join_word s n k
 
 -- a line is read as a step exactly when it has that step's form
 pub record LinesRead : Type 0 where
-  pub read : (s : List ℕ) (t : Step) → step_in s ≡ Taken t → HasForm s t
-  pub taken : (s : List ℕ) (t : Step) → HasForm s t → step_in s ≡ Taken t
+  pub read : (s : List ℕ) (t : Step) → step_in s ≡ Some t → HasForm s t
+  pub taken : (s : List ℕ) (t : Step) → HasForm s t → step_in s ≡ Some t

@@ -1,22 +1,19 @@
 -- The lines of a journal, and the step that a line stands for.
-use Rattle.std.specs.Prelude.{Bool, true, false, ◌&&◌, List, [], ◌∷◌, ℕ, ◌+◌, ◌-◌, ◌*◌, min, eqb, ltb, leb, length, take, drop}
+use Rattle.std.specs.Prelude.{Bool, true, false, ◌&&◌, List, [], ◌∷◌, ℕ, ◌+◌, ◌-◌, ◌*◌, min, eqb, ltb, leb, length, take, drop, Option, Some, None}
+use Rattle.std.specs.Option.{option_map}
 use Rattle.finite.specs.Base.{pick}
 use Rattle.embedding.specs.Read.{place_of}
 use Rattle.embedding.specs.declared.journal.Step.{Step}
 use Rattle.embedding.specs.declared.journal.Step.TheVariants.{Split, Hang, Join}
-use Rattle.replaying.specs.declared.lines.Number.{Number}
-use Rattle.replaying.specs.declared.lines.Number.TheVariants.{Value, NoNumber}
-use Rattle.replaying.specs.declared.lines.Line.{Line}
-use Rattle.replaying.specs.declared.lines.Line.TheVariants.{Taken, NoStep}
 
 -- digits behind those that stand for v; '0' is 48 and '9' is 57; a number above 65,535 counts as 65,535
-abbrev pub go_on : ℕ → List ℕ → Number
-go_on v [] = Value (min v 65535)
-go_on v (d ∷ ds) = pick (leb 48 d && leb d 57) (go_on (10 * v + (d - 48)) ds) NoNumber
+abbrev pub go_on : ℕ → List ℕ → Option ℕ
+go_on v [] = Some (min v 65535)
+go_on v (d ∷ ds) = pick (leb 48 d && leb d 57) (go_on (10 * v + (d - 48)) ds) None
 
 -- no digits are no number
-abbrev pub number_in : List ℕ → Number
-number_in [] = NoNumber
+abbrev pub number_in : List ℕ → Option ℕ
+number_in [] = None
 number_in (d ∷ ds) = go_on 0 (d ∷ ds)
 
 -- the words, each with its space
@@ -38,30 +35,22 @@ begins_with [] s = true
 begins_with (w ∷ ws) [] = false
 begins_with (w ∷ ws) (x ∷ xs) = eqb w x && begins_with ws xs
 
-abbrev pub split_of : Number → Line
-split_of (Value s) = Taken (Split s)
-split_of NoNumber = NoStep
-
-abbrev pub hang_of : Number → Line
-hang_of (Value d) = Taken (Hang d)
-hang_of NoNumber = NoStep
-
-abbrev pub join_of : Number → Number → Line
-join_of (Value d) (Value e) = Taken (Join d e)
-join_of (Value d) NoNumber = NoStep
-join_of NoNumber n = NoStep
+abbrev pub join_of : Option ℕ → Option ℕ → Option Step
+join_of (Some d) (Some e) = Some (Join d e)
+join_of (Some d) None = None
+join_of None n = None
 
 -- two numbers with a space, byte 32, between
-abbrev pub join_in : List ℕ → Line
-join_in s = pick (ltb (place_of 32 s) (length s)) (join_of (number_in (take (place_of 32 s) s)) (number_in (drop (place_of 32 s + 1) s))) NoStep
+abbrev pub join_in : List ℕ → Option Step
+join_in s = pick (ltb (place_of 32 s) (length s)) (join_of (number_in (take (place_of 32 s) s)) (number_in (drop (place_of 32 s + 1) s))) None
 
 -- a line without its line feed: a word and its numbers, or no step
-abbrev pub step_in : List ℕ → Line
+abbrev pub step_in : List ℕ → Option Step
 step_in s =
-    pick (begins_with split_word s) (split_of (number_in (drop 6 s)))
-    (pick (begins_with hang_word s) (hang_of (number_in (drop 5 s)))
+    pick (begins_with split_word s) (option_map Split (number_in (drop 6 s)))
+    (pick (begins_with hang_word s) (option_map Hang (number_in (drop 5 s)))
     (pick (begins_with join_word s) (join_in (drop 5 s))
-    NoStep))
+    None))
 
 -- a byte put before the first line
 abbrev pub before : ℕ → List (List ℕ) → List (List ℕ)
@@ -74,9 +63,9 @@ lines_of [] = []
 lines_of (x ∷ xs) = pick (eqb 10 x) ([] ∷ lines_of xs) (before x (lines_of xs))
 
 -- the steps up to the first line that is none
-abbrev pub step_before : Line → List Step → List Step
-step_before (Taken t) ts = t ∷ ts
-step_before NoStep ts = []
+abbrev pub step_before : Option Step → List Step → List Step
+step_before (Some t) ts = t ∷ ts
+step_before None ts = []
 
 abbrev pub steps_in : List (List ℕ) → List Step
 steps_in [] = []

@@ -1,10 +1,8 @@
 -- A replay of the lines of a journal over a plate list: how it stands after each line.
-use Rattle.std.specs.Prelude.{◌≡◌, Bool, true, false, List, [], ◌∷◌, ℕ, ◌+◌, ◌≤◌, ◌<◌, eqb, length, take}
+use Rattle.std.specs.Prelude.{◌≡◌, Bool, true, false, List, [], ◌∷◌, ℕ, ◌+◌, ◌≤◌, ◌<◌, eqb, length, take, Option, Some, None}
 use Rattle.finite.specs.Base.{pick}
 use Rattle.plates.specs.Files.{list_fault, plate_of}
 use Rattle.plates.specs.Journal.{Step, step_fault, list_after, replayed_list}
-use Rattle.replaying.specs.declared.lines.Line.{Line}
-use Rattle.replaying.specs.declared.lines.Line.TheVariants.{Taken, NoStep}
 use Rattle.replaying.specs.declared.replay.Outcome.{Outcome}
 use Rattle.replaying.specs.declared.replay.Outcome.TheVariants.{Through, Refused, Stopped}
 use Rattle.replaying.specs.declared.replay.Replay.{Replay}
@@ -26,9 +24,9 @@ on_fault none e z t = record { list = pick none (list_after z.list t) z.list; li
 abbrev pub on_step : Stand → Step → Stand
 on_step z t = on_fault (eqb (step_fault (plate_of z.list) t) 0) (step_fault (plate_of z.list) t) z t
 
-abbrev pub on_line : Stand → Line → Stand
-on_line z (Taken t) = on_step z t
-on_line z NoStep = record { list = z.list; line = z.line + 1; outcome = Stopped }
+abbrev pub on_line : Stand → Option Step → Stand
+on_line z (Some t) = on_step z t
+on_line z None = record { list = z.list; line = z.line + 1; outcome = Stopped }
 
 abbrev pub is_through : Outcome → Bool
 is_through Through = true

@@ -6,7 +6,7 @@ ghost use Rattle.std.specs.Prelude.{◌≤◌, length};
 ghost use Rattle.replaying.specs.Replays.{Ready};
 
 use crate::replay::{Outcome, Replay, replay_lines};
-use console::{complain, open_named, open_to_write, read_named, say, say_counted, say_number};
+use console::{complain, open_named, open_to_write, read_named};
 use plates::reading::read_list;
 use plates::write_listing;
 use std::io;
@@ -26,7 +26,7 @@ fn show(rt: &impl Print, list: &[u8], text: &mut [u8]) -> io::Result<()> {
     if text.len() < long {
         return Ok(());
     }
-    say(rt, &text[..long])
+    rt.write_all(&text[..long])
 }
 
 fn report(rt: &impl Print, list: &[u8], line: usize, outcome: Outcome) -> io::Result<()> {
@@ -35,14 +35,8 @@ fn report(rt: &impl Print, list: &[u8], line: usize, outcome: Outcome) -> io::Re
             let mut text = [0u8; 8192];
             show(rt, list, &mut text)
         }
-        Outcome::Refused(number) => {
-            say_counted(rt, b"refused ", number as u64)?;
-            say_number(rt, b" at line ", line as u64)
-        }
-        Outcome::Stopped => {
-            say_counted(rt, b"line ", line as u64)?;
-            say(rt, b": no step\n")
-        }
+        Outcome::Refused(number) => println!(rt; "refused {number} at line {line}"),
+        Outcome::Stopped => println!(rt; "line {line}: no step"),
     }
 }
 
@@ -81,7 +75,7 @@ fn run(
 {
     let read = read_list(&list[..long]);
     if read.number != 0 {
-        return say_number(rt, b"refused ", read.number as u64);
+        return println!(rt; "refused {}", read.number);
     }
     let start = Replay {
         list,

@@ -3,7 +3,7 @@ ghost use Rattle.std.specs.Prelude.{◌≡◌, length};
 ghost use Rattle.replaying.specs.Lines.{step_in};
 ghost use Rattle.replaying.specs.Replays.{stand_of, on_step, on_line, is_through, Countable, Goes, Startable, Replayed};
 
-use crate::lines::{Line, step_in};
+use crate::lines::step_in;
 use edits::edit_list;
 use embedding::journal::{Step, place_of};
 
@@ -63,8 +63,8 @@ fn take_line(state: Replay, line: &[u8]) -> Replay
 {
     let read = step_in(line);
     match read {
-        Line::Taken(step) => take_step(state, step),
-        Line::NoStep => {
+        Some(step) => take_step(state, step),
+        None => {
             let list = state.list;
             Replay {
                 list,

@@ -11,15 +11,6 @@ use plates::{Listed, Shaped, check_shape, write_shape};
 use std::io;
 use texts::{read_text, write_text};
 
-fn say(rt: &impl Print, text: &[u8]) -> io::Result<()> {
-    rt.write_all(text)
-}
-
-fn say_number(rt: &impl Print, word: &[u8], number: u64) -> io::Result<()> {
-    say(rt, word)?;
-    print!(rt; "{number}")
-}
-
 // Writes bytes in hexadecimal, each behind a blank.
 fn say_bytes(rt: &impl Print, s: &[u8]) -> io::Result<()> {
     for byte in s {
@@ -29,69 +20,54 @@ fn say_bytes(rt: &impl Print, s: &[u8]) -> io::Result<()> {
 }
 
 // How many bytes are still those that all memory here is filled with.
-fn untouched(s: &[u8]) -> u64 {
-    let mut same = 0u64;
-    let mut i = 0;
-    while i < s.len() {
-        if s[i] == 0xee {
-            same += 1;
-        }
-        i += 1;
-    }
-    same
+fn untouched(s: &[u8]) -> usize {
+    s.iter().filter(|byte| **byte == 0xee).count()
 }
 
 // Ends a line with the number of bytes that are untouched, of how many.
-fn say_untouched(rt: &impl Print, word: &[u8], s: &[u8]) -> io::Result<()> {
-    say_number(rt, word, untouched(s))?;
-    say_number(rt, b" of ", s.len() as u64)?;
-    say(rt, b" untouched\n")
+fn say_untouched(rt: &impl Print, word: &str, s: &[u8]) -> io::Result<()> {
+    let same = untouched(s);
+    let all = s.len();
+    println!(rt; " {word} {same} of {all} untouched")
 }
 
 // Writes what shaping answers and what it left in the memory, which was filled with 0xee.
 fn say_shaped(rt: &impl Print, shaped: Shaped, memory: &[u8]) -> io::Result<()> {
-    say_number(rt, b": ", shaped.number as u64)?;
+    print!(rt; ": {}", shaped.number)?;
     if shaped.number != 0 {
-        return say_untouched(rt, b" memory ", memory);
+        return say_untouched(rt, "memory", memory);
     }
-    say_number(rt, b" length ", shaped.long as u64)?;
-    say_number(rt, b" bends ", shaped.bends as u64)?;
-    say(rt, b" bytes")?;
+    print!(rt; " length {} bends {} bytes", shaped.long, shaped.bends)?;
     let n = memory.len().min(shaped.long as usize);
     say_bytes(rt, &memory[..n])?;
-    say_untouched(rt, b" behind ", &memory[n..])
+    say_untouched(rt, "behind", &memory[n..])
 }
 
-fn shape_into(rt: &impl Print, label: &[u8], list: &[u8], memory: &mut [u8]) -> io::Result<()> {
+fn shape_into(rt: &impl Print, label: &str, list: &[u8], memory: &mut [u8]) -> io::Result<()> {
     let shaped = write_shape(list, memory);
-    say(rt, b"shape ")?;
-    say(rt, label)?;
+    print!(rt; "shape {label}")?;
     say_shaped(rt, shaped, memory)
 }
 
-fn shape(rt: &impl Print, label: &[u8], list: &[u8]) -> io::Result<()> {
+fn shape(rt: &impl Print, label: &str, list: &[u8]) -> io::Result<()> {
     let mut memory = [0xeeu8; 320];
     shape_into(rt, label, list, &mut memory)
 }
 
-fn check(rt: &impl Print, label: &[u8], list: &[u8], shape: &[u8]) -> io::Result<()> {
+fn check(rt: &impl Print, label: &str, list: &[u8], shape: &[u8]) -> io::Result<()> {
     let verdict = check_shape(list, shape);
-    say(rt, b"check ")?;
-    say(rt, label)?;
-    say_number(rt, b": ", verdict.number as u64)?;
+    print!(rt; "check {label}: {}", verdict.number)?;
     if verdict.number == 0 {
-        say_number(rt, b" total ", verdict.total as u64)?;
-        say_number(rt, b" fewest ", verdict.fewest as u64)?;
-        if verdict.ours {
-            say(rt, b" ours yes")?;
-        } else {
-            say(rt, b" ours no")?;
-        }
+        let ours = if verdict.ours { "yes" } else { "no" };
+        print!(rt;
+            " total {} fewest {} ours {ours}",
+            verdict.total, verdict.fewest
+        )?;
     }
-    say(rt, b"\n")
+    println!(rt;)
 }
 
-fn check_p1(rt: &impl Print, label: &[u8], shape: &[u8]) -> io::Result<()> {
+fn check_p1(rt: &impl Print, label: &str, shape: &[u8]) -> io::Result<()> {
     check(
         rt,
         label,
@@ -105,25 +81,25 @@ fn first_plates(rt: &impl Print) -> io::Result<()> {
     // Two strips between two posts: both bends on dart 3.
     shape(
         rt,
-        b"P1",
+        "P1",
         b"\x01\x00\x02\x00\x07\x02\x00\x01\x02\x03\x00\x04\x00\x01\x00\x01\x04\x00\x04\x00\x02\x01\x03\x05\x00\x01\x01",
     )?;
     // A triangle: three corners of a quarter turn inside, so one bend, on dart 4.
     shape(
         rt,
-        b"P2",
+        "P2",
         b"\x01\x00\x02\x00\x07\x02\x00\x01\x03\x03\x00\x06\x00\x01\x01\x02\x02\x00\x04\x00\x06\x00\x05\x01\x02\x03\x04\x05\x00\x01\x01",
     )?;
     // A square: no bend.
     shape(
         rt,
-        b"P3",
+        "P3",
         b"\x01\x00\x02\x00\x07\x02\x00\x01\x04\x03\x00\x08\x00\x01\x01\x02\x02\x03\x03\x00\x04\x00\x08\x00\x07\x01\x02\x03\x04\x05\x06\x05\x00\x01\x01",
     )?;
     // One strip: a whole turn at each end.
     shape(
         rt,
-        b"P4",
+        "P4",
         b"\x01\x00\x02\x00\x07\x02\x00\x01\x02\x03\x00\x02\x00\x01\x04\x00\x02\x00\x01\x05\x00\x01\x00",
     )
 }
@@ -133,25 +109,25 @@ fn more_plates(rt: &impl Print) -> io::Result<()> {
     // Four strips from one post.
     shape(
         rt,
-        b"P5",
+        "P5",
         b"\x01\x00\x02\x00\x07\x02\x00\x01\x05\x03\x00\x08\x00\x01\x00\x02\x00\x03\x00\x04\x04\x00\x08\x00\x02\x04\x06\x01\x03\x05\x07\x05\x00\x01\x01",
     )?;
     // Two strips in a row: among equal totals the smaller angle of dart 0 comes first.
     shape(
         rt,
-        b"P6",
+        "P6",
         b"\x01\x00\x02\x00\x07\x02\x00\x01\x03\x03\x00\x04\x00\x01\x01\x02\x04\x00\x04\x00\x01\x02\x03\x05\x00\x01\x01",
     )?;
     // Three strips between two posts: two bends on dart 0 and two on dart 5.
     shape(
         rt,
-        b"P7",
+        "P7",
         b"\x01\x00\x02\x00\x07\x02\x00\x01\x02\x03\x00\x06\x00\x01\x00\x01\x00\x01\x04\x00\x06\x00\x02\x04\x05\x03\x01\x05\x00\x01\x01",
     )?;
     // P7 with the order at post 1 turned round: one face only.
     shape(
         rt,
-        b"P8",
+        "P8",
         b"\x01\x00\x02\x00\x07\x02\x00\x01\x02\x03\x00\x06\x00\x01\x00\x01\x00\x01\x04\x00\x06\x00\x02\x04\x01\x03\x05\x05\x00\x01\x01",
     )
 }
@@ -159,29 +135,29 @@ fn more_plates(rt: &impl Print) -> io::Result<()> {
 // Document 01's P10, but for the memory: what just passes and what just does not.
 fn limits(rt: &impl Print) -> io::Result<()> {
     // No byte ends the walk; every field is absent.
-    shape(rt, b"empty", b"")?;
+    shape(rt, "empty", b"")?;
     // 65 posts are too many.
     shape(
         rt,
-        b"65 posts",
+        "65 posts",
         b"\x01\x00\x02\x00\x07\x02\x00\x01\x41\x03\x00\x02\x00\x01\x04\x00\x02\x00\x01\x05\x00\x01\x00",
     )?;
     // 64 posts go on: refused only because 62 of them hang on nothing.
     shape(
         rt,
-        b"64 posts",
+        "64 posts",
         b"\x01\x00\x02\x00\x07\x02\x00\x01\x40\x03\x00\x02\x3e\x3f\x04\x00\x02\x00\x01\x05\x00\x01\x00",
     )?;
     // A fifth strip at a post.
     shape(
         rt,
-        b"five strips",
+        "five strips",
         b"\x01\x00\x02\x00\x07\x02\x00\x01\x02\x03\x00\x0a\x00\x01\x00\x01\x00\x01\x00\x01\x00\x01\x04\x00\x0a\x00\x02\x04\x06\x08\x09\x07\x05\x03\x01\x05\x00\x01\x01",
     )?;
     // A fourth goes on. Every corner has one quarter; each inner face has two bends more to the right than to the left, so 2, 0, -2, -4.
     shape(
         rt,
-        b"four strips",
+        "four strips",
         b"\x01\x00\x02\x00\x07\x02\x00\x01\x02\x03\x00\x08\x00\x01\x00\x01\x00\x01\x00\x01\x04\x00\x08\x00\x02\x04\x06\x07\x05\x03\x01\x05\x00\x01\x01",
     )
 }
@@ -189,41 +165,41 @@ fn limits(rt: &impl Print) -> io::Result<()> {
 // Refusals 1 to 6, each once or twice.
 fn walk_refusals(rt: &impl Print) -> io::Result<()> {
     // One byte remains.
-    shape(rt, b"one byte", b"\x01")?;
+    shape(rt, "one byte", b"\x01")?;
     // P1, and two bytes remain.
     shape(
         rt,
-        b"P1 and two bytes",
+        "P1 and two bytes",
         b"\x01\x00\x02\x00\x07\x02\x00\x01\x02\x03\x00\x04\x00\x01\x00\x01\x04\x00\x04\x00\x02\x01\x03\x05\x00\x01\x01\x06\x00",
     )?;
     // A tag that no file has.
-    shape(rt, b"tag 08", b"\x08\x00\x00")?;
+    shape(rt, "tag 08", b"\x08\x00\x00")?;
     // A tag of the shape file.
     shape(
         rt,
-        b"tag 11",
+        "tag 11",
         b"\x11\x00\x02\x00\x07\x12\x00\x02\x00\x02\x13\x00\x04\x01\x03\x03\x01\x14\x00\x04\x00\x00\x00\x02",
     )?;
     // A tag met before.
     shape(
         rt,
-        b"revision twice",
+        "revision twice",
         b"\x01\x00\x02\x00\x07\x01\x00\x02\x00\x07",
     )?;
     // A revision has two bytes.
-    shape(rt, b"revision of three", b"\x01\x00\x03\x00\x07\x00")?;
+    shape(rt, "revision of three", b"\x01\x00\x03\x00\x07\x00")?;
     // A remark has at most 80 bytes.
     shape(
         rt,
-        b"remark of 81",
+        "remark of 81",
         b"\x06\x00\x51\x41\x41\x41\x41\x41\x41\x41\x41\x41\x41\x41\x41\x41\x41\x41\x41\x41\x41\x41\x41\x41\x41\x41\x41\x41\x41\x41\x41\x41\x41\x41\x41\x41\x41\x41\x41\x41\x41\x41\x41\x41\x41\x41\x41\x41\x41\x41\x41\x41\x41\x41\x41\x41\x41\x41\x41\x41\x41\x41\x41\x41\x41\x41\x41\x41\x41\x41\x41\x41\x41\x41\x41\x41\x41\x41\x41\x41\x41\x41\x41\x41",
     )?;
     // One byte of two.
-    shape(rt, b"revision cut", b"\x01\x00\x02\x00")?;
+    shape(rt, "revision cut", b"\x01\x00\x02\x00")?;
     // P1 without its outer dart.
     shape(
         rt,
-        b"no outer dart",
+        "no outer dart",
         b"\x01\x00\x02\x00\x07\x02\x00\x01\x02\x03\x00\x04\x00\x01\x00\x01\x04\x00\x04\x00\x02\x01\x03",
     )
 }
@@ -231,35 +207,35 @@ fn walk_refusals(rt: &impl Print) -> io::Result<()> {
 // Several faults in the walk: all six are tried at one field before the next.
 fn first_in_walk(rt: &impl Print) -> io::Result<()> {
     // 1 comes before 2.
-    shape(rt, b"other tag and two bytes", b"\x08\x00")?;
+    shape(rt, "other tag and two bytes", b"\x08\x00")?;
     // 2 comes before 4 and 5.
-    shape(rt, b"tag ff", b"\xff\xff\xff")?;
+    shape(rt, "tag ff", b"\xff\xff\xff")?;
     // 3 comes before 4 and 5.
     shape(
         rt,
-        b"revision twice, second too long",
+        "revision twice, second too long",
         b"\x01\x00\x02\x00\x07\x01\x00\x09\x00",
     )?;
     // 29 comes before 4 and 5.
     shape(
         rt,
-        b"outer dart, then posts too long",
+        "outer dart, then posts too long",
         b"\x05\x00\x01\x01\x02\x00\x09",
     )?;
     // 4 comes before 5.
-    shape(rt, b"odd strips, cut", b"\x03\x00\x03\x00")?;
+    shape(rt, "odd strips, cut", b"\x03\x00\x03\x00")?;
     // A fault 4 in the first field comes before a fault 2 in the second.
     shape(
         rt,
-        b"posts of two, then tag 08",
+        "posts of two, then tag 08",
         b"\x02\x00\x02\x02\x02\x08\x00\x00",
     )?;
     // A fault 1 behind a field comes before 6.
-    shape(rt, b"revision and one byte", b"\x01\x00\x02\x00\x07\x02")?;
+    shape(rt, "revision and one byte", b"\x01\x00\x02\x00\x07\x02")?;
     // 6 comes before 7: 65 posts, and no outer dart.
     shape(
         rt,
-        b"65 posts, no outer dart",
+        "65 posts, no outer dart",
         b"\x01\x00\x02\x00\x07\x02\x00\x01\x41\x03\x00\x02\x00\x01\x04\x00\x02\x00\x01",
     )
 }
@@ -269,19 +245,19 @@ fn post_counts(rt: &impl Print) -> io::Result<()> {
     // No post.
     shape(
         rt,
-        b"no post",
+        "no post",
         b"\x01\x00\x02\x00\x07\x02\x00\x01\x00\x03\x00\x02\x00\x01\x04\x00\x02\x00\x01\x05\x00\x01\x00",
     )?;
     // 7 comes before 8.
     shape(
         rt,
-        b"65 posts, no strip",
+        "65 posts, no strip",
         b"\x01\x00\x02\x00\x07\x02\x00\x01\x41\x03\x00\x00\x04\x00\x00\x05\x00\x01\x00",
     )?;
     // 8 comes before 12: the order of no strip is empty, and this one is not.
     shape(
         rt,
-        b"no strip",
+        "no strip",
         b"\x01\x00\x02\x00\x07\x02\x00\x01\x02\x03\x00\x00\x04\x00\x02\x00\x01\x05\x00\x01\x00",
     )
 }
@@ -291,25 +267,25 @@ fn strips(rt: &impl Print) -> io::Result<()> {
     // Post 2 of two posts.
     shape(
         rt,
-        b"an end that is no post",
+        "an end that is no post",
         b"\x01\x00\x02\x00\x07\x02\x00\x01\x02\x03\x00\x02\x00\x02\x04\x00\x02\x00\x01\x05\x00\x01\x00",
     )?;
     // A strip to itself is no refusal, but post 2 of the strip behind it is.
     shape(
         rt,
-        b"to itself, then no post",
+        "to itself, then no post",
         b"\x01\x00\x02\x00\x07\x02\x00\x01\x02\x03\x00\x04\x01\x01\x00\x02\x04\x00\x04\x00\x01\x02\x03\x05\x00\x01\x00",
     )?;
     // Post 0 has five places taken, post 1 seven.
     shape(
         rt,
-        b"five strips, then to itself",
+        "five strips, then to itself",
         b"\x01\x00\x02\x00\x07\x02\x00\x01\x02\x03\x00\x0c\x00\x01\x00\x01\x00\x01\x00\x01\x00\x01\x01\x01\x04\x00\x00\x05\x00\x01\x00",
     )?;
     // 11 comes before 12.
     shape(
         rt,
-        b"five strips, no order",
+        "five strips, no order",
         b"\x01\x00\x02\x00\x07\x02\x00\x01\x02\x03\x00\x0a\x00\x01\x00\x01\x00\x01\x00\x01\x00\x01\x04\x00\x00\x05\x00\x01\x00",
     )
 }
@@ -319,24 +295,24 @@ fn strips_to_itself(rt: &impl Print) -> io::Result<()> {
     // Strip 1 joins post 1 to itself: inside it, one corner of 1 and three bends to the right.
     shape(
         rt,
-        b"to itself",
+        "to itself",
         b"\x01\x00\x02\x00\x07\x02\x00\x01\x02\x03\x00\x04\x00\x01\x01\x01\x04\x00\x04\x00\x01\x02\x03\x05\x00\x01\x00",
     )?;
     // One post, one strip: three bends on dart 0.
     shape(
         rt,
-        b"one strip to itself",
+        "one strip to itself",
         b"\x01\x00\x02\x00\x07\x02\x00\x01\x01\x03\x00\x02\x00\x00\x04\x00\x02\x00\x01\x05\x00\x01\x01",
     )?;
     // 11 counts places: two strips to itself take four, three take six.
     shape(
         rt,
-        b"two strips to itself",
+        "two strips to itself",
         b"\x01\x00\x02\x00\x07\x02\x00\x01\x01\x03\x00\x04\x00\x00\x00\x00\x04\x00\x04\x00\x01\x02\x03\x05\x00\x01\x01",
     )?;
     shape(
         rt,
-        b"three strips to itself",
+        "three strips to itself",
         b"\x01\x00\x02\x00\x07\x02\x00\x01\x01\x03\x00\x06\x00\x00\x00\x00\x00\x00\x04\x00\x06\x00\x01\x02\x03\x04\x05\x05\x00\x01\x01",
     )
 }
@@ -346,25 +322,25 @@ fn order_and_whole(rt: &impl Print) -> io::Result<()> {
     // The order has a dart too few.
     shape(
         rt,
-        b"order of three",
+        "order of three",
         b"\x01\x00\x02\x00\x07\x02\x00\x01\x02\x03\x00\x04\x00\x01\x00\x01\x04\x00\x03\x00\x02\x01\x05\x00\x01\x01",
     )?;
     // Dart 0 stands twice, dart 2 not at all.
     shape(
         rt,
-        b"dart twice",
+        "dart twice",
         b"\x01\x00\x02\x00\x07\x02\x00\x01\x02\x03\x00\x04\x00\x01\x00\x01\x04\x00\x04\x00\x00\x01\x03\x05\x00\x01\x01",
     )?;
     // 12 comes before 13: dart 1 leaves post 1, and there is no dart 9.
     shape(
         rt,
-        b"dart of another post, outer dart 9",
+        "dart of another post, outer dart 9",
         b"\x01\x00\x02\x00\x07\x02\x00\x01\x02\x03\x00\x04\x00\x01\x00\x01\x04\x00\x04\x00\x01\x02\x03\x05\x00\x01\x09",
     )?;
     // Darts are 0 to 3.
     shape(
         rt,
-        b"outer dart 4",
+        "outer dart 4",
         b"\x01\x00\x02\x00\x07\x02\x00\x01\x02\x03\x00\x04\x00\x01\x00\x01\x04\x00\x04\x00\x02\x01\x03\x05\x00\x01\x04",
     )
 }
@@ -374,19 +350,19 @@ fn whole_plates(rt: &impl Print) -> io::Result<()> {
     // 13 comes before 14.
     shape(
         rt,
-        b"two pieces, outer dart 4",
+        "two pieces, outer dart 4",
         b"\x01\x00\x02\x00\x07\x02\x00\x01\x04\x03\x00\x04\x00\x01\x02\x03\x04\x00\x04\x00\x01\x02\x03\x05\x00\x01\x04",
     )?;
     // Two strips that share no post.
     shape(
         rt,
-        b"two pieces",
+        "two pieces",
         b"\x01\x00\x02\x00\x07\x02\x00\x01\x04\x03\x00\x04\x00\x01\x02\x03\x04\x00\x04\x00\x01\x02\x03\x05\x00\x01\x01",
     )?;
     // 14 comes before 15: P8 beside a post alone.
     shape(
         rt,
-        b"P8 and a post alone",
+        "P8 and a post alone",
         b"\x01\x00\x02\x00\x07\x02\x00\x01\x03\x03\x00\x06\x00\x01\x00\x01\x00\x01\x04\x00\x06\x00\x02\x04\x01\x03\x05\x05\x00\x01\x01",
     )
 }
@@ -396,25 +372,25 @@ fn copies(rt: &impl Print) -> io::Result<()> {
     // The remark is passed over.
     shape(
         rt,
-        b"remark",
+        "remark",
         b"\x01\x00\x02\x00\x07\x02\x00\x01\x02\x03\x00\x04\x00\x01\x00\x01\x04\x00\x04\x00\x02\x01\x03\x05\x00\x01\x01\x06\x00\x02\x48\x69",
     )?;
     // Another revision and an empty remark: the same total, angles and right bends.
     shape(
         rt,
-        b"empty remark",
+        "empty remark",
         b"\x01\x00\x02\x12\x34\x02\x00\x01\x02\x03\x00\x04\x00\x01\x00\x01\x04\x00\x04\x00\x02\x01\x03\x05\x00\x01\x01\x06\x00\x00",
     )?;
     // The fields of P1 in reversed order.
     shape(
         rt,
-        b"reversed",
+        "reversed",
         b"\x05\x00\x01\x01\x04\x00\x04\x00\x02\x01\x03\x03\x00\x04\x00\x01\x00\x01\x02\x00\x01\x02\x01\x00\x02\x00\x07",
     )?;
     // P1 with outer dart 0: the faces change places, and so do angles and bends of the two sides.
     shape(
         rt,
-        b"P1, outer dart 0",
+        "P1, outer dart 0",
         b"\x01\x00\x02\x00\x07\x02\x00\x01\x02\x03\x00\x04\x00\x01\x00\x01\x04\x00\x04\x00\x02\x01\x03\x05\x00\x01\x00",
     )
 }
@@ -425,14 +401,14 @@ fn memory(rt: &impl Print) -> io::Result<()> {
     let mut short = [0xeeu8; 23];
     shape_into(
         rt,
-        b"P1 in 23",
+        "P1 in 23",
         b"\x01\x00\x02\x00\x07\x02\x00\x01\x02\x03\x00\x04\x00\x01\x00\x01\x04\x00\x04\x00\x02\x01\x03\x05\x00\x01\x01",
         &mut short,
     )?;
     let mut enough = [0xeeu8; 24];
     shape_into(
         rt,
-        b"P1 in 24",
+        "P1 in 24",
         b"\x01\x00\x02\x00\x07\x02\x00\x01\x02\x03\x00\x04\x00\x01\x00\x01\x04\x00\x04\x00\x02\x01\x03\x05\x00\x01\x01",
         &mut enough,
     )?;
@@ -440,21 +416,21 @@ fn memory(rt: &impl Print) -> io::Result<()> {
     let mut near = [0xeeu8; 23];
     shape_into(
         rt,
-        b"P1 and remark in 23",
+        "P1 and remark in 23",
         b"\x01\x00\x02\x00\x07\x02\x00\x01\x02\x03\x00\x04\x00\x01\x00\x01\x04\x00\x04\x00\x02\x01\x03\x05\x00\x01\x01\x06\x00\x01\x41",
         &mut near,
     )?;
     let mut just = [0xeeu8; 24];
     shape_into(
         rt,
-        b"P1 and remark in 24",
+        "P1 and remark in 24",
         b"\x01\x00\x02\x00\x07\x02\x00\x01\x02\x03\x00\x04\x00\x01\x00\x01\x04\x00\x04\x00\x02\x01\x03\x05\x00\x01\x01\x06\x00\x01\x41",
         &mut just,
     )?;
     // 15 comes before 16: P8 with no memory at all.
     shape_into(
         rt,
-        b"P8 in 0",
+        "P8 in 0",
         b"\x01\x00\x02\x00\x07\x02\x00\x01\x02\x03\x00\x06\x00\x01\x00\x01\x00\x01\x04\x00\x06\x00\x02\x04\x01\x03\x05\x05\x00\x01\x01",
         &mut short[..0],
     )
@@ -465,25 +441,25 @@ fn sound_p1(rt: &impl Print) -> io::Result<()> {
     // The shape that we write.
     check_p1(
         rt,
-        b"P1",
+        "P1",
         b"\x11\x00\x02\x00\x07\x12\x00\x02\x00\x02\x13\x00\x04\x01\x03\x03\x01\x14\x00\x04\x00\x00\x00\x02",
     )?;
     // Both bends on dart 0: as few, but dart 0 has more.
     check_p1(
         rt,
-        b"P1, bends on dart 0",
+        "P1, bends on dart 0",
         b"\x11\x00\x02\x00\x07\x12\x00\x02\x00\x02\x13\x00\x04\x01\x03\x03\x01\x14\x00\x04\x02\x00\x00\x00",
     )?;
     // A bend on each strip.
     check_p1(
         rt,
-        b"P1, a bend on each",
+        "P1, a bend on each",
         b"\x11\x00\x02\x00\x07\x12\x00\x02\x00\x02\x13\x00\x04\x01\x03\x03\x01\x14\x00\x04\x01\x00\x00\x01",
     )?;
     // Three to the right and one to the left on strip 1: more than the fewest.
     check_p1(
         rt,
-        b"P1, four bends",
+        "P1, four bends",
         b"\x11\x00\x02\x00\x07\x12\x00\x02\x00\x04\x13\x00\x04\x01\x03\x03\x01\x14\x00\x04\x00\x00\x01\x03",
     )
 }
@@ -493,25 +469,25 @@ fn sound_p1_with_more(rt: &impl Print) -> io::Result<()> {
     // 255 and 253 of them: a total of two bytes.
     check_p1(
         rt,
-        b"P1, 508 bends",
+        "P1, 508 bends",
         b"\x11\x00\x02\x00\x07\x12\x00\x02\x01\xfc\x13\x00\x04\x01\x03\x03\x01\x14\x00\x04\x00\x00\xfd\xff",
     )?;
     // A wider corner inside: one bend more.
     check_p1(
         rt,
-        b"P1, angle 2 inside",
+        "P1, angle 2 inside",
         b"\x11\x00\x02\x00\x07\x12\x00\x02\x00\x03\x13\x00\x04\x02\x03\x02\x01\x14\x00\x04\x00\x00\x00\x03",
     )?;
     // The remark makes no difference.
     check_p1(
         rt,
-        b"P1, with remark",
+        "P1, with remark",
         b"\x11\x00\x02\x00\x07\x12\x00\x02\x00\x02\x13\x00\x04\x01\x03\x03\x01\x14\x00\x04\x00\x00\x00\x02\x15\x00\x01\x41",
     )?;
     // The fields in reversed order.
     check_p1(
         rt,
-        b"P1 reversed, with remark",
+        "P1 reversed, with remark",
         b"\x15\x00\x01\x41\x14\x00\x04\x00\x00\x00\x02\x13\x00\x04\x01\x03\x03\x01\x12\x00\x02\x00\x02\x11\x00\x02\x00\x07",
     )
 }
@@ -521,35 +497,35 @@ fn sound_others(rt: &impl Print) -> io::Result<()> {
     // The shape that we write.
     check(
         rt,
-        b"P3",
+        "P3",
         b"\x01\x00\x02\x00\x07\x02\x00\x01\x04\x03\x00\x08\x00\x01\x01\x02\x02\x03\x03\x00\x04\x00\x08\x00\x07\x01\x02\x03\x04\x05\x06\x05\x00\x01\x01",
         b"\x11\x00\x02\x00\x07\x12\x00\x02\x00\x00\x13\x00\x08\x01\x03\x01\x03\x01\x03\x01\x03\x14\x00\x08\x00\x00\x00\x00\x00\x00\x00\x00",
     )?;
     // A strip that bends right and left.
     check(
         rt,
-        b"P3, right and left",
+        "P3, right and left",
         b"\x01\x00\x02\x00\x07\x02\x00\x01\x04\x03\x00\x08\x00\x01\x01\x02\x02\x03\x03\x00\x04\x00\x08\x00\x07\x01\x02\x03\x04\x05\x06\x05\x00\x01\x01",
         b"\x11\x00\x02\x00\x07\x12\x00\x02\x00\x02\x13\x00\x08\x01\x03\x01\x03\x01\x03\x01\x03\x14\x00\x08\x01\x01\x00\x00\x00\x00\x00\x00",
     )?;
     // The shape that we write, straight on at post 1.
     check(
         rt,
-        b"P6",
+        "P6",
         b"\x01\x00\x02\x00\x07\x02\x00\x01\x03\x03\x00\x04\x00\x01\x01\x02\x04\x00\x04\x00\x01\x02\x03\x05\x00\x01\x01",
         b"\x11\x00\x02\x00\x07\x12\x00\x02\x00\x00\x13\x00\x04\x02\x04\x04\x02\x14\x00\x04\x00\x00\x00\x00",
     )?;
     // A corner at post 1: no bend either, and a smaller angle of dart 0.
     check(
         rt,
-        b"P6, cornered",
+        "P6, cornered",
         b"\x01\x00\x02\x00\x07\x02\x00\x01\x03\x03\x00\x04\x00\x01\x01\x02\x04\x00\x04\x00\x01\x02\x03\x05\x00\x01\x01",
         b"\x11\x00\x02\x00\x07\x12\x00\x02\x00\x00\x13\x00\x04\x01\x04\x04\x03\x14\x00\x04\x00\x00\x00\x00",
     )?;
     // The shape that we write.
     check(
         rt,
-        b"P7",
+        "P7",
         b"\x01\x00\x02\x00\x07\x02\x00\x01\x02\x03\x00\x06\x00\x01\x00\x01\x00\x01\x04\x00\x06\x00\x02\x04\x05\x03\x01\x05\x00\x01\x01",
         b"\x11\x00\x02\x00\x07\x12\x00\x02\x00\x04\x13\x00\x06\x01\x02\x01\x01\x02\x01\x14\x00\x06\x02\x00\x00\x00\x00\x02",
     )
@@ -560,21 +536,21 @@ fn check_to_itself(rt: &impl Print) -> io::Result<()> {
     // The shape that we write.
     check(
         rt,
-        b"to itself",
+        "to itself",
         b"\x01\x00\x02\x00\x07\x02\x00\x01\x01\x03\x00\x02\x00\x00\x04\x00\x02\x00\x01\x05\x00\x01\x01",
         b"\x11\x00\x02\x00\x07\x12\x00\x02\x00\x03\x13\x00\x02\x01\x03\x14\x00\x02\x03\x00",
     )?;
     // A larger angle inside takes a bend more.
     check(
         rt,
-        b"to itself, angle 2 inside",
+        "to itself, angle 2 inside",
         b"\x01\x00\x02\x00\x07\x02\x00\x01\x01\x03\x00\x02\x00\x00\x04\x00\x02\x00\x01\x05\x00\x01\x01",
         b"\x11\x00\x02\x00\x07\x12\x00\x02\x00\x04\x13\x00\x02\x02\x02\x14\x00\x02\x04\x00",
     )?;
     // The inner face does not close.
     check(
         rt,
-        b"to itself, two bends",
+        "to itself, two bends",
         b"\x01\x00\x02\x00\x07\x02\x00\x01\x01\x03\x00\x02\x00\x00\x04\x00\x02\x00\x01\x05\x00\x01\x01",
         b"\x11\x00\x02\x00\x07\x12\x00\x02\x00\x02\x13\x00\x02\x01\x03\x14\x00\x02\x02\x00",
     )
@@ -585,38 +561,38 @@ fn check_walks(rt: &impl Print) -> io::Result<()> {
     // 15 of the list before 6 of the shape.
     check(
         rt,
-        b"P8 and no shape",
+        "P8 and no shape",
         b"\x01\x00\x02\x00\x07\x02\x00\x01\x02\x03\x00\x06\x00\x01\x00\x01\x00\x01\x04\x00\x06\x00\x02\x04\x01\x03\x05\x05\x00\x01\x01",
         b"",
     )?;
     // 6 of the list before 1 of the shape.
-    check(rt, b"no list and one byte", b"", b"\x11")?;
+    check(rt, "no list and one byte", b"", b"\x11")?;
     // One byte remains.
-    check_p1(rt, b"shape of one byte", b"\x11")?;
+    check_p1(rt, "shape of one byte", b"\x11")?;
     // A tag of the plate list.
     check_p1(
         rt,
-        b"list as shape",
+        "list as shape",
         b"\x01\x00\x02\x00\x07\x02\x00\x01\x02\x03\x00\x04\x00\x01\x00\x01\x04\x00\x04\x00\x02\x01\x03\x05\x00\x01\x01",
     )?;
     // A tag met before.
     check_p1(
         rt,
-        b"total twice",
+        "total twice",
         b"\x12\x00\x02\x00\x02\x12\x00\x02\x00\x02",
     )?;
     // A total has two bytes.
-    check_p1(rt, b"total of one", b"\x12\x00\x01\x02")?;
+    check_p1(rt, "total of one", b"\x12\x00\x01\x02")?;
     // One byte of right bends is missing.
     check_p1(
         rt,
-        b"shape cut",
+        "shape cut",
         b"\x11\x00\x02\x00\x07\x12\x00\x02\x00\x02\x13\x00\x04\x01\x03\x03\x01\x14\x00\x04\x00\x00\x00",
     )?;
     // No right bends.
     check_p1(
         rt,
-        b"no right bends",
+        "no right bends",
         b"\x11\x00\x02\x00\x07\x12\x00\x02\x00\x02\x13\x00\x04\x01\x03\x03\x01",
     )
 }
@@ -626,31 +602,31 @@ fn check_lengths(rt: &impl Print) -> io::Result<()> {
     // Three angles for four darts.
     check_p1(
         rt,
-        b"three angles",
+        "three angles",
         b"\x11\x00\x02\x00\x07\x12\x00\x02\x00\x02\x13\x00\x03\x01\x03\x03\x14\x00\x04\x00\x00\x00\x02",
     )?;
     // Six right bends for four darts.
     check_p1(
         rt,
-        b"six right bends",
+        "six right bends",
         b"\x11\x00\x02\x00\x07\x12\x00\x02\x00\x02\x13\x00\x04\x01\x03\x03\x01\x14\x00\x06\x00\x00\x00\x02\x00\x00",
     )?;
     // 17 comes before 18.
     check_p1(
         rt,
-        b"three angles, revision 8",
+        "three angles, revision 8",
         b"\x11\x00\x02\x00\x08\x12\x00\x02\x00\x02\x13\x00\x03\x01\x03\x03\x14\x00\x04\x00\x00\x00\x02",
     )?;
     // The list has revision 7.
     check_p1(
         rt,
-        b"revision 8",
+        "revision 8",
         b"\x11\x00\x02\x00\x08\x12\x00\x02\x00\x02\x13\x00\x04\x01\x03\x03\x01\x14\x00\x04\x00\x00\x00\x02",
     )?;
     // The high byte counts too. 18 comes before 19.
     check_p1(
         rt,
-        b"revision 263, angle 0",
+        "revision 263, angle 0",
         b"\x11\x00\x02\x01\x07\x12\x00\x02\x00\x02\x13\x00\x04\x00\x03\x04\x01\x14\x00\x04\x00\x00\x00\x02",
     )
 }
@@ -660,25 +636,25 @@ fn check_angles(rt: &impl Print) -> io::Result<()> {
     // An angle of 0, though the angles at both posts add to 4.
     check_p1(
         rt,
-        b"angle 0",
+        "angle 0",
         b"\x11\x00\x02\x00\x07\x12\x00\x02\x00\x03\x13\x00\x04\x00\x03\x04\x01\x14\x00\x04\x00\x00\x00\x03",
     )?;
     // 19 comes before 20.
     check_p1(
         rt,
-        b"angle 5",
+        "angle 5",
         b"\x11\x00\x02\x00\x07\x12\x00\x02\x00\x02\x13\x00\x04\x05\x03\x03\x01\x14\x00\x04\x00\x00\x00\x02",
     )?;
     // Angles 2 and 3 at post 1, 2 and 1 at post 0; both faces are right.
     check_p1(
         rt,
-        b"angles at posts",
+        "angles at posts",
         b"\x11\x00\x02\x00\x07\x12\x00\x02\x00\x03\x13\x00\x04\x02\x02\x03\x01\x14\x00\x04\x00\x00\x00\x03",
     )?;
     // 20 comes before 21.
     check_p1(
         rt,
-        b"angles at a post",
+        "angles at a post",
         b"\x11\x00\x02\x00\x07\x12\x00\x02\x00\x02\x13\x00\x04\x01\x03\x03\x02\x14\x00\x04\x00\x00\x00\x02",
     )
 }
@@ -688,25 +664,25 @@ fn check_turns(rt: &impl Print) -> io::Result<()> {
     // A bend too few.
     check_p1(
         rt,
-        b"one bend",
+        "one bend",
         b"\x11\x00\x02\x00\x07\x12\x00\x02\x00\x01\x13\x00\x04\x01\x03\x03\x01\x14\x00\x04\x00\x00\x00\x01",
     )?;
     // The bends on the other side of the strip.
     check_p1(
         rt,
-        b"bends on dart 2",
+        "bends on dart 2",
         b"\x11\x00\x02\x00\x07\x12\x00\x02\x00\x02\x13\x00\x04\x01\x03\x03\x01\x14\x00\x04\x00\x00\x02\x00",
     )?;
     // 21 comes before 22.
     check_p1(
         rt,
-        b"one bend, total 2",
+        "one bend, total 2",
         b"\x11\x00\x02\x00\x07\x12\x00\x02\x00\x02\x13\x00\x04\x01\x03\x03\x01\x14\x00\x04\x00\x00\x00\x01",
     )?;
     // Each bend counts once.
     check_p1(
         rt,
-        b"total 4",
+        "total 4",
         b"\x11\x00\x02\x00\x07\x12\x00\x02\x00\x04\x13\x00\x04\x01\x03\x03\x01\x14\x00\x04\x00\x00\x00\x02",
     )
 }
@@ -716,31 +692,31 @@ fn bend_limits(rt: &impl Print) -> io::Result<()> {
     // Each strip of P1 takes one of the two bends.
     shape(
         rt,
-        b"P1, limits 1 1",
+        "P1, limits 1 1",
         b"\x01\x00\x02\x00\x07\x02\x00\x01\x02\x03\x00\x04\x00\x01\x00\x01\x04\x00\x04\x00\x02\x01\x03\x05\x00\x01\x01\x07\x00\x02\x01\x01",
     )?;
     // Both bends on strip 0.
     shape(
         rt,
-        b"P1, limits 255 0",
+        "P1, limits 255 0",
         b"\x01\x00\x02\x00\x07\x02\x00\x01\x02\x03\x00\x04\x00\x01\x00\x01\x04\x00\x04\x00\x02\x01\x03\x05\x00\x01\x01\x07\x00\x02\xff\x00",
     )?;
     // No limit.
     shape(
         rt,
-        b"P1, limits 255 255",
+        "P1, limits 255 255",
         b"\x01\x00\x02\x00\x07\x02\x00\x01\x02\x03\x00\x04\x00\x01\x00\x01\x04\x00\x04\x00\x02\x01\x03\x05\x00\x01\x01\x07\x00\x02\xff\xff",
     )?;
     // Strip 0 of P7 may bend once: a bend more than with no limit.
     shape(
         rt,
-        b"P7, limits 1 255 255",
+        "P7, limits 1 255 255",
         b"\x01\x00\x02\x00\x07\x02\x00\x01\x02\x03\x00\x06\x00\x01\x00\x01\x00\x01\x04\x00\x06\x00\x02\x04\x05\x03\x01\x05\x00\x01\x01\x07\x00\x03\x01\xff\xff",
     )?;
     // The inner face wants two bends.
     shape(
         rt,
-        b"P1, limits 1 0",
+        "P1, limits 1 0",
         b"\x01\x00\x02\x00\x07\x02\x00\x01\x02\x03\x00\x04\x00\x01\x00\x01\x04\x00\x04\x00\x02\x01\x03\x05\x00\x01\x01\x07\x00\x02\x01\x00",
     )
 }
@@ -751,14 +727,14 @@ fn bend_limits_in_23(rt: &impl Print) -> io::Result<()> {
     // 24 comes before 16.
     shape_into(
         rt,
-        b"P1, limits 1 0, in 23",
+        "P1, limits 1 0, in 23",
         b"\x01\x00\x02\x00\x07\x02\x00\x01\x02\x03\x00\x04\x00\x01\x00\x01\x04\x00\x04\x00\x02\x01\x03\x05\x00\x01\x01\x07\x00\x02\x01\x00",
         &mut short,
     )?;
     // Where some shape keeps the limits there is 16.
     shape_into(
         rt,
-        b"P1, limits 1 1, in 23",
+        "P1, limits 1 1, in 23",
         b"\x01\x00\x02\x00\x07\x02\x00\x01\x02\x03\x00\x04\x00\x01\x00\x01\x04\x00\x04\x00\x02\x01\x03\x05\x00\x01\x01\x07\x00\x02\x01\x01",
         &mut short,
     )
@@ -769,25 +745,25 @@ fn limits_refused(rt: &impl Print) -> io::Result<()> {
     // One limit for two strips.
     shape(
         rt,
-        b"P1, one limit",
+        "P1, one limit",
         b"\x01\x00\x02\x00\x07\x02\x00\x01\x02\x03\x00\x04\x00\x01\x00\x01\x04\x00\x04\x00\x02\x01\x03\x05\x00\x01\x01\x07\x00\x01\x01",
     )?;
     // No limit at all is not one for each strip.
     shape(
         rt,
-        b"P1, empty limits",
+        "P1, empty limits",
         b"\x01\x00\x02\x00\x07\x02\x00\x01\x02\x03\x00\x04\x00\x01\x00\x01\x04\x00\x04\x00\x02\x01\x03\x05\x00\x01\x01\x07\x00\x00",
     )?;
     // 15 comes before 23.
     shape(
         rt,
-        b"P8, one limit",
+        "P8, one limit",
         b"\x01\x00\x02\x00\x07\x02\x00\x01\x02\x03\x00\x06\x00\x01\x00\x01\x00\x01\x04\x00\x06\x00\x02\x04\x01\x03\x05\x05\x00\x01\x01\x07\x00\x01\x01",
     )?;
     // Tags ascend.
     shape(
         rt,
-        b"P1, limits, then a remark",
+        "P1, limits, then a remark",
         b"\x01\x00\x02\x00\x07\x02\x00\x01\x02\x03\x00\x04\x00\x01\x00\x01\x04\x00\x04\x00\x02\x01\x03\x05\x00\x01\x01\x07\x00\x02\x01\x01\x06\x00\x00",
     )
 }
@@ -797,28 +773,28 @@ fn check_limits(rt: &impl Print) -> io::Result<()> {
     // The shape that we write within the limits.
     check(
         rt,
-        b"P1, limits 1 1",
+        "P1, limits 1 1",
         b"\x01\x00\x02\x00\x07\x02\x00\x01\x02\x03\x00\x04\x00\x01\x00\x01\x04\x00\x04\x00\x02\x01\x03\x05\x00\x01\x01\x07\x00\x02\x01\x01",
         b"\x11\x00\x02\x00\x07\x12\x00\x02\x00\x02\x13\x00\x04\x01\x03\x03\x01\x14\x00\x04\x01\x00\x00\x01",
     )?;
     // As few bends, but two on strip 1.
     check(
         rt,
-        b"P1, limits 1 1, bends on dart 3",
+        "P1, limits 1 1, bends on dart 3",
         b"\x01\x00\x02\x00\x07\x02\x00\x01\x02\x03\x00\x04\x00\x01\x00\x01\x04\x00\x04\x00\x02\x01\x03\x05\x00\x01\x01\x07\x00\x02\x01\x01",
         b"\x11\x00\x02\x00\x07\x12\x00\x02\x00\x02\x13\x00\x04\x01\x03\x03\x01\x14\x00\x04\x00\x00\x00\x02",
     )?;
     // 22 comes before 25.
     check(
         rt,
-        b"P1, limits 1 1, total 4",
+        "P1, limits 1 1, total 4",
         b"\x01\x00\x02\x00\x07\x02\x00\x01\x02\x03\x00\x04\x00\x01\x00\x01\x04\x00\x04\x00\x02\x01\x03\x05\x00\x01\x01\x07\x00\x02\x01\x01",
         b"\x11\x00\x02\x00\x07\x12\x00\x02\x00\x04\x13\x00\x04\x01\x03\x03\x01\x14\x00\x04\x00\x00\x00\x02",
     )?;
     // No shape keeps the limits, so each passes one.
     check(
         rt,
-        b"P1, limits 1 0",
+        "P1, limits 1 0",
         b"\x01\x00\x02\x00\x07\x02\x00\x01\x02\x03\x00\x04\x00\x01\x00\x01\x04\x00\x04\x00\x02\x01\x03\x05\x00\x01\x01\x07\x00\x02\x01\x00",
         b"\x11\x00\x02\x00\x07\x12\x00\x02\x00\x02\x13\x00\x04\x01\x03\x03\x01\x14\x00\x04\x01\x00\x00\x01",
     )
@@ -829,21 +805,21 @@ fn check_more_limits(rt: &impl Print) -> io::Result<()> {
     // Bends to both sides count.
     check(
         rt,
-        b"P1, limits 3 255",
+        "P1, limits 3 255",
         b"\x01\x00\x02\x00\x07\x02\x00\x01\x02\x03\x00\x04\x00\x01\x00\x01\x04\x00\x04\x00\x02\x01\x03\x05\x00\x01\x01\x07\x00\x02\x03\xff",
         b"\x11\x00\x02\x00\x07\x12\x00\x02\x00\x04\x13\x00\x04\x01\x03\x03\x01\x14\x00\x04\x03\x01\x00\x00",
     )?;
     // The fewest are those within the limits.
     check(
         rt,
-        b"P7, limits 1 255 255",
+        "P7, limits 1 255 255",
         b"\x01\x00\x02\x00\x07\x02\x00\x01\x02\x03\x00\x06\x00\x01\x00\x01\x00\x01\x04\x00\x06\x00\x02\x04\x05\x03\x01\x05\x00\x01\x01\x07\x00\x03\x01\xff\xff",
         b"\x11\x00\x02\x00\x07\x12\x00\x02\x00\x05\x13\x00\x06\x01\x02\x01\x01\x02\x01\x14\x00\x06\x01\x00\x00\x01\x00\x03",
     )?;
     // 23 comes before all of the shape file.
     check(
         rt,
-        b"P1, one limit, no shape",
+        "P1, one limit, no shape",
         b"\x01\x00\x02\x00\x07\x02\x00\x01\x02\x03\x00\x04\x00\x01\x00\x01\x04\x00\x04\x00\x02\x01\x03\x05\x00\x01\x01\x07\x00\x01\x01",
         b"",
     )
@@ -891,11 +867,10 @@ fn ring_post(mut list: [u8; 614], v: u8) -> [u8; 614]
 
 fn ring_list() -> [u8; 614] {
     let mut list = ring_heads();
-    let mut v = 0;
-    while v < 64 {
+    for v in 0..64 {
+        // A local between: a call's result is not laid in an array that was handed to it.
         let more = ring_post(list, v);
         list = more;
-        v += 1;
     }
     list
 }
@@ -906,43 +881,42 @@ fn ring_list() -> [u8; 614] {
 fn ring_of_64(rt: &impl Print) -> io::Result<()> {
     let list = ring_list();
     let mut memory = [0xeeu8; 640];
-    shape_into(rt, b"ring of 64", &list, &mut memory)
+    shape_into(rt, "ring of 64", &list, &mut memory)
 }
 
 // Writes what the conversion to text answers and what it left in the memory, and the text.
 fn say_listed(rt: &impl Print, listed: Listed, memory: &[u8]) -> io::Result<()> {
-    say_number(rt, b": ", listed.number as u64)?;
+    print!(rt; ": {}", listed.number)?;
     if listed.number != 0 {
-        return say_untouched(rt, b" memory ", memory);
+        return say_untouched(rt, "memory", memory);
     }
     let long = listed.long;
-    say_number(rt, b" length ", long as u64)?;
+    print!(rt; " length {long}")?;
     if memory.len() < long {
         return Ok(());
     }
-    say_untouched(rt, b" behind ", &memory[long..])?;
-    say(rt, &memory[..long])
+    say_untouched(rt, "behind", &memory[long..])?;
+    rt.write_all(&memory[..long])
 }
 
 fn text_into(
     rt: &impl Print,
-    label: &[u8],
+    label: &str,
     list: &[u8],
     shape: &[u8],
     memory: &mut [u8],
 ) -> io::Result<()> {
     let listed = write_text(list, shape, memory);
-    say(rt, b"text ")?;
-    say(rt, label)?;
+    print!(rt; "text {label}")?;
     say_listed(rt, listed, memory)
 }
 
-fn text(rt: &impl Print, label: &[u8], list: &[u8], shape: &[u8]) -> io::Result<()> {
+fn text(rt: &impl Print, label: &str, list: &[u8], shape: &[u8]) -> io::Result<()> {
     let mut memory = [0xeeu8; 60];
     text_into(rt, label, list, shape, &mut memory)
 }
 
-fn text_p1(rt: &impl Print, label: &[u8], shape: &[u8]) -> io::Result<()> {
+fn text_p1(rt: &impl Print, label: &str, shape: &[u8]) -> io::Result<()> {
     text(
         rt,
         label,
@@ -953,23 +927,22 @@ fn text_p1(rt: &impl Print, label: &[u8], shape: &[u8]) -> io::Result<()> {
 
 fn back_into(
     rt: &impl Print,
-    label: &[u8],
+    label: &str,
     list: &[u8],
     text: &[u8],
     memory: &mut [u8],
 ) -> io::Result<()> {
     let shaped = read_text(list, text, memory);
-    say(rt, b"back ")?;
-    say(rt, label)?;
+    print!(rt; "back {label}")?;
     say_shaped(rt, shaped, memory)
 }
 
-fn back(rt: &impl Print, label: &[u8], list: &[u8], text: &[u8]) -> io::Result<()> {
+fn back(rt: &impl Print, label: &str, list: &[u8], text: &[u8]) -> io::Result<()> {
     let mut memory = [0xeeu8; 60];
     back_into(rt, label, list, text, &mut memory)
 }
 
-fn back_p1(rt: &impl Print, label: &[u8], text: &[u8]) -> io::Result<()> {
+fn back_p1(rt: &impl Print, label: &str, text: &[u8]) -> io::Result<()> {
     back(
         rt,
         label,
@@ -982,46 +955,46 @@ fn back_p1(rt: &impl Print, label: &[u8], text: &[u8]) -> io::Result<()> {
 fn texts(rt: &impl Print) -> io::Result<()> {
     text_p1(
         rt,
-        b"P1",
+        "P1",
         b"\x11\x00\x02\x00\x07\x12\x00\x02\x00\x02\x13\x00\x04\x01\x03\x03\x01\x14\x00\x04\x00\x00\x00\x02",
     )?;
     text(
         rt,
-        b"P2",
+        "P2",
         b"\x01\x00\x02\x00\x07\x02\x00\x01\x03\x03\x00\x06\x00\x01\x01\x02\x02\x00\x04\x00\x06\x00\x05\x01\x02\x03\x04\x05\x00\x01\x01",
         b"\x11\x00\x02\x00\x07\x12\x00\x02\x00\x01\x13\x00\x06\x01\x03\x01\x03\x01\x03\x14\x00\x06\x00\x00\x00\x00\x01\x00",
     )?;
     text(
         rt,
-        b"one strip to itself",
+        "one strip to itself",
         b"\x01\x00\x02\x00\x07\x02\x00\x01\x01\x03\x00\x02\x00\x00\x04\x00\x02\x00\x01\x05\x00\x01\x01",
         b"\x11\x00\x02\x00\x07\x12\x00\x02\x00\x03\x13\x00\x02\x01\x03\x14\x00\x02\x03\x00",
     )?;
     text_p1(
         rt,
-        b"P1, bends on dart 0",
+        "P1, bends on dart 0",
         b"\x11\x00\x02\x00\x07\x12\x00\x02\x00\x02\x13\x00\x04\x01\x03\x03\x01\x14\x00\x04\x02\x00\x00\x00",
     )?;
     text_p1(
         rt,
-        b"P1, with remark",
+        "P1, with remark",
         b"\x11\x00\x02\x00\x07\x12\x00\x02\x00\x02\x13\x00\x04\x01\x03\x03\x01\x14\x00\x04\x00\x00\x00\x02\x15\x00\x01\x41",
     )
 }
 
 // Back: P1, a shape that is not ours, a strip to itself; a remark of a list, which is passed over.
 fn texts_back(rt: &impl Print) -> io::Result<()> {
-    back_p1(rt, b"P1", b"1 - 3 2 11 3\n0 - 1 3 00 1\n")?;
-    back_p1(rt, b"P1, bends on dart 0", b"1 11 3 2 - 3\n0 00 1 3 - 1\n")?;
+    back_p1(rt, "P1", b"1 - 3 2 11 3\n0 - 1 3 00 1\n")?;
+    back_p1(rt, "P1, bends on dart 0", b"1 11 3 2 - 3\n0 00 1 3 - 1\n")?;
     back(
         rt,
-        b"P1 and remark",
+        "P1 and remark",
         b"\x01\x00\x02\x00\x07\x02\x00\x01\x02\x03\x00\x04\x00\x01\x00\x01\x04\x00\x04\x00\x02\x01\x03\x05\x00\x01\x01\x06\x00\x02\x48\x69",
         b"1 - 3 2 11 3\n0 - 1 3 00 1\n",
     )?;
     back(
         rt,
-        b"one strip to itself",
+        "one strip to itself",
         b"\x01\x00\x02\x00\x07\x02\x00\x01\x01\x03\x00\x02\x00\x00\x04\x00\x02\x00\x01\x05\x00\x01\x01",
         b"1 111 3\n0 000 1\n",
     )
@@ -1031,34 +1004,34 @@ fn texts_back(rt: &impl Print) -> io::Result<()> {
 fn texts_refused(rt: &impl Print) -> io::Result<()> {
     text(
         rt,
-        b"P1, list cut",
+        "P1, list cut",
         b"\x01\x00\x02\x00\x07\x02\x00\x01\x02\x03\x00\x04\x00\x01\x00\x01\x04\x00\x04\x00\x02\x01\x03\x05\x00\x01",
         b"\x11\x00\x02\x00\x07\x12\x00\x02\x00\x02\x13\x00\x04\x01\x03\x03\x01\x14\x00\x04\x00\x00\x00\x02",
     )?;
     text_p1(
         rt,
-        b"P1, an angle of 5",
+        "P1, an angle of 5",
         b"\x11\x00\x02\x00\x07\x12\x00\x02\x00\x02\x13\x00\x04\x05\x03\x03\x01\x14\x00\x04\x00\x00\x00\x02",
     )?;
     text_p1(
         rt,
-        b"P1, total 3",
+        "P1, total 3",
         b"\x11\x00\x02\x00\x07\x12\x00\x02\x00\x03\x13\x00\x04\x01\x03\x03\x01\x14\x00\x04\x00\x00\x00\x02",
     )?;
     text(
         rt,
-        b"P1, limits 2 1",
+        "P1, limits 2 1",
         b"\x01\x00\x02\x00\x07\x02\x00\x01\x02\x03\x00\x04\x00\x01\x00\x01\x04\x00\x04\x00\x02\x01\x03\x05\x00\x01\x01\x07\x00\x02\x02\x01",
         b"\x11\x00\x02\x00\x07\x12\x00\x02\x00\x02\x13\x00\x04\x01\x03\x03\x01\x14\x00\x04\x00\x00\x00\x02",
     )?;
     text_p1(
         rt,
-        b"P1, strip 0 both ways",
+        "P1, strip 0 both ways",
         b"\x11\x00\x02\x00\x07\x12\x00\x02\x00\x04\x13\x00\x04\x01\x03\x03\x01\x14\x00\x04\x01\x01\x00\x02",
     )?;
     text(
         rt,
-        b"P1, strip 0 both ways, limits 1 2",
+        "P1, strip 0 both ways, limits 1 2",
         b"\x01\x00\x02\x00\x07\x02\x00\x01\x02\x03\x00\x04\x00\x01\x00\x01\x04\x00\x04\x00\x02\x01\x03\x05\x00\x01\x01\x07\x00\x02\x01\x02",
         b"\x11\x00\x02\x00\x07\x12\x00\x02\x00\x04\x13\x00\x04\x01\x03\x03\x01\x14\x00\x04\x01\x01\x00\x02",
     )
@@ -1068,34 +1041,34 @@ fn texts_refused(rt: &impl Print) -> io::Result<()> {
 fn lines_refused(rt: &impl Print) -> io::Result<()> {
     back(
         rt,
-        b"P8, no text",
+        "P8, no text",
         b"\x01\x00\x02\x00\x07\x02\x00\x01\x02\x03\x00\x06\x00\x01\x00\x01\x00\x01\x04\x00\x06\x00\x02\x04\x01\x03\x05\x05\x00\x01\x01",
         b"",
     )?;
-    back_p1(rt, b"no text", b"")?;
-    back_p1(rt, b"last line not ended", b"1 - 3 2 11 3\n0 - 1 3 00 1")?;
-    back_p1(rt, b"leading zero", b"01 - 3 2 11 3\n0 - 1 3 00 1\n")?;
-    back_p1(rt, b"both digits", b"1 - 3 2 10 3\n0 - 1 3 10 1\n")?;
-    back_p1(rt, b"both digits, then no angle", b"1 - 3 2 10 3\n0 -\n")?;
-    back_p1(rt, b"inner face first", b"0 - 1 3 00 1\n1 - 3 2 11 3\n")?;
-    back_p1(rt, b"from dart 2", b"2 11 3 1 - 3\n0 - 1 3 00 1\n")?;
-    back_p1(rt, b"dart 257", b"257 - 3 2 11 3\n0 - 1 3 00 1\n")?;
-    back_p1(rt, b"words that disagree", b"1 - 3 2 1 3\n0 - 1 3 00 1\n")
+    back_p1(rt, "no text", b"")?;
+    back_p1(rt, "last line not ended", b"1 - 3 2 11 3\n0 - 1 3 00 1")?;
+    back_p1(rt, "leading zero", b"01 - 3 2 11 3\n0 - 1 3 00 1\n")?;
+    back_p1(rt, "both digits", b"1 - 3 2 10 3\n0 - 1 3 10 1\n")?;
+    back_p1(rt, "both digits, then no angle", b"1 - 3 2 10 3\n0 -\n")?;
+    back_p1(rt, "inner face first", b"0 - 1 3 00 1\n1 - 3 2 11 3\n")?;
+    back_p1(rt, "from dart 2", b"2 11 3 1 - 3\n0 - 1 3 00 1\n")?;
+    back_p1(rt, "dart 257", b"257 - 3 2 11 3\n0 - 1 3 00 1\n")?;
+    back_p1(rt, "words that disagree", b"1 - 3 2 1 3\n0 - 1 3 00 1\n")
 }
 
 // Back: 20, 21, 25, and never 24.
 fn counts_refused(rt: &impl Print) -> io::Result<()> {
-    back_p1(rt, b"angles at post 0", b"1 - 4 2 11 3\n0 - 1 3 00 1\n")?;
-    back_p1(rt, b"one bend", b"1 - 3 2 1 3\n0 - 1 3 0 1\n")?;
+    back_p1(rt, "angles at post 0", b"1 - 4 2 11 3\n0 - 1 3 00 1\n")?;
+    back_p1(rt, "one bend", b"1 - 3 2 1 3\n0 - 1 3 0 1\n")?;
     back(
         rt,
-        b"P1, limits 2 1",
+        "P1, limits 2 1",
         b"\x01\x00\x02\x00\x07\x02\x00\x01\x02\x03\x00\x04\x00\x01\x00\x01\x04\x00\x04\x00\x02\x01\x03\x05\x00\x01\x01\x07\x00\x02\x02\x01",
         b"1 - 3 2 11 3\n0 - 1 3 00 1\n",
     )?;
     back(
         rt,
-        b"P1, limits 1 0, no shape",
+        "P1, limits 1 0, no shape",
         b"\x01\x00\x02\x00\x07\x02\x00\x01\x02\x03\x00\x04\x00\x01\x00\x01\x04\x00\x04\x00\x02\x01\x03\x05\x00\x01\x01\x07\x00\x02\x01\x00",
         b"1 - 3 2 11 3\n0 - 1 3 00 1\n",
     )
@@ -1106,7 +1079,7 @@ fn text_memory(rt: &impl Print) -> io::Result<()> {
     let mut short = [0xeeu8; 25];
     text_into(
         rt,
-        b"P1 in 25",
+        "P1 in 25",
         b"\x01\x00\x02\x00\x07\x02\x00\x01\x02\x03\x00\x04\x00\x01\x00\x01\x04\x00\x04\x00\x02\x01\x03\x05\x00\x01\x01",
         b"\x11\x00\x02\x00\x07\x12\x00\x02\x00\x02\x13\x00\x04\x01\x03\x03\x01\x14\x00\x04\x00\x00\x00\x02",
         &mut short,
@@ -1114,7 +1087,7 @@ fn text_memory(rt: &impl Print) -> io::Result<()> {
     let mut enough = [0xeeu8; 26];
     text_into(
         rt,
-        b"P1 in 26",
+        "P1 in 26",
         b"\x01\x00\x02\x00\x07\x02\x00\x01\x02\x03\x00\x04\x00\x01\x00\x01\x04\x00\x04\x00\x02\x01\x03\x05\x00\x01\x01",
         b"\x11\x00\x02\x00\x07\x12\x00\x02\x00\x02\x13\x00\x04\x01\x03\x03\x01\x14\x00\x04\x00\x00\x00\x02",
         &mut enough,
@@ -1122,7 +1095,7 @@ fn text_memory(rt: &impl Print) -> io::Result<()> {
     let mut none = [0xeeu8; 0];
     text_into(
         rt,
-        b"P1, strip 0 both ways, in 0",
+        "P1, strip 0 both ways, in 0",
         b"\x01\x00\x02\x00\x07\x02\x00\x01\x02\x03\x00\x04\x00\x01\x00\x01\x04\x00\x04\x00\x02\x01\x03\x05\x00\x01\x01",
         b"\x11\x00\x02\x00\x07\x12\x00\x02\x00\x04\x13\x00\x04\x01\x03\x03\x01\x14\x00\x04\x01\x01\x00\x02",
         &mut none,
@@ -1134,7 +1107,7 @@ fn back_memory(rt: &impl Print) -> io::Result<()> {
     let mut less = [0xeeu8; 23];
     back_into(
         rt,
-        b"P1 in 23",
+        "P1 in 23",
         b"\x01\x00\x02\x00\x07\x02\x00\x01\x02\x03\x00\x04\x00\x01\x00\x01\x04\x00\x04\x00\x02\x01\x03\x05\x00\x01\x01",
         b"1 - 3 2 11 3\n0 - 1 3 00 1\n",
         &mut less,
@@ -1142,7 +1115,7 @@ fn back_memory(rt: &impl Print) -> io::Result<()> {
     let mut just = [0xeeu8; 24];
     back_into(
         rt,
-        b"P1 in 24",
+        "P1 in 24",
         b"\x01\x00\x02\x00\x07\x02\x00\x01\x02\x03\x00\x04\x00\x01\x00\x01\x04\x00\x04\x00\x02\x01\x03\x05\x00\x01\x01",
         b"1 - 3 2 11 3\n0 - 1 3 00 1\n",
         &mut just,

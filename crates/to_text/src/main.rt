@@ -1,7 +1,7 @@
 //! Writes the text of a shape file. The arguments: the name of the plate list, the name of the shape file.
 #![tactic(auto)]
 
-use console::{open_named, read_named, say, say_number};
+use console::{open_named, read_named};
 use std::io;
 use std::io::Read;
 use texts::write_text;
@@ -11,9 +11,9 @@ fn show(rt: &impl Print, list: &[u8], shape: &[u8], out: &mut [u8]) -> io::Resul
     let written = write_text(list, shape, out);
     let long = written.long;
     if written.number != 0 {
-        return say_number(rt, b"refused ", written.number as u64);
+        return println!(rt; "refused {}", written.number);
     }
-    say(rt, &out[..long])
+    rt.write_all(&out[..long])
 }
 
 // Of a longer file only the first 4,096 bytes are read. Such a file is refused, by the number that the whole

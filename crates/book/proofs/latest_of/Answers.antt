@@ -2,7 +2,8 @@
 use Rattle.std.proofs.Common.{rules, ◌≡◌, ◌∙◌, ap}
 use Rattle.std.specs.Prelude.{Option}
 use Rattle.std.specs.Option.{option_map}
-use Rattle.book.specs.Entries.{Entry, entries_in}
+use Rattle.book.specs.declared.Entry.{Entry}
+use Rattle.book.specs.Entries.{entries_in}
 use Rattle.book.proofs.Scans.{latest_found}
 use Rattle.book.proofs.latest_of.Goals as goal
 
