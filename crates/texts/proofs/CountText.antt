@@ -23,7 +23,7 @@ use Rattle.plates.specs.Text.{Entry, text_of}
 use Rattle.plates.specs.Lines.{face_entries, face_text, is_mixed, some_mixed, word_of, both_ways, darts_of}
 use Rattle.texts.specs.Plan.{laid, PlanHeld}
 use Rattle.texts.specs.Prints.{count_word, count_entries, entry_long, long_up_to, Straight, PrintRoom}
-use Rattle.texts.specs.declared.planning.Laid.{Laid}
+use Rattle.texts.specs.declared.planning.Turn.{Turn}
 use Rattle.texts.proofs.OneWay.{one_way, ways_none, word_one}
 use Rattle.texts.proofs.OneWay as Ways
 use Rattle.texts.proofs.Refill.{refill_cong, refill_unmixed, word_found, word_unmixed, plan_filled}
@@ -109,27 +109,18 @@ module _ (p : Plate) (acc : Accepted p) (a r : List ℕ) (many : length r ≡ da
         ∙ all_sum p o (outer_below p acc) (entry_long r) ∙ ap (λ (n : ℕ). sum_below n (entry_long r)) (sym many) ∙ sym (long_sum (length r) r)
 
     -- a plan that is held
-    module _ {q : Laid} (held : PlanHeld p q) where
-      held_text : face_text p a ws ≡ text_of (count_entries a r (laid (length r) q.order q.ends))
-      held_text = counted_text ∙ ap (λ (l : List Entry). text_of (count_entries a r l)) (sym held.entries ∙ ap (λ (n : ℕ). laid n q.order q.ends) (sym many))
+    module _ (q : List Turn) (held : PlanHeld p q) where
+      held_text : face_text p a ws ≡ text_of (count_entries a r (laid q))
+      held_text = counted_text ∙ ap (λ (l : List Entry). text_of (count_entries a r l)) (sym held)
 
-      held_darts : (i : ℕ) → i < length r → get_or q.order i 0 < length r
-      held_darts i l =
-          let e = laid_dart (darts p) q.order q.ends i (omega (arith, many)) in
-          let in-plan : is_in (get_or q.order i 0) (darts_of plan) ≡ true = subst (λ (x : List Entry). is_in (get_or q.order i 0) (darts_of x) ≡ true) held.entries e in
-          omega (arith, planned (get_or q.order i 0) in-plan, many)
+      held_darts : (i : ℕ) (t : Turn) → i < length q → (get_or q i t).dart < length r
+      held_darts i t l = omega (arith, planned (get_or q i t).dart (ap (λ (x : List Entry). is_in (get_or q i t).dart (darts_of x)) (sym held) ∙ laid_dart q i t l), many)
 
-      pub print_room : (room : ℕ) → Straight a r → long_up_to (length r) r ≤ room → PrintRoom q.order q.ends a r room
-      print_room room s l = record {
-        straight = s;
-        order_long = held.order_long;
-        ends_long = held.ends_long;
-        below = held_darts;
-        enough = omega (arith, ap length held_text, counted_long);
-      }
+      pub print_room : (room : ℕ) → Straight a r → long_up_to (length r) r ≤ room → PrintRoom q a r room
+      print_room room s l = record { straight = s; below = held_darts; enough = omega (arith, ap length held_text, counted_long) }
 
       pub printed : {n at : ℕ} → n ≡ long_up_to (length r) r → (out : List ℕ) {out' : List ℕ} → long_up_to (length r) r ≤ length out
-          → Written 0 (text_of (count_entries a r (laid (length r) q.order q.ends))) out out' at → Gives (face_text p a ws) out out' (record { number = 0; long = n })
+          → Written 0 (text_of (count_entries a r (laid q))) out out' at → Gives (face_text p a ws) out out' (record { number = 0; long = n })
       printed {n} {at} e out {out'} l w =
           let t = face_text p a ws in
           let long : n ≡ length t = e ∙ sym counted_long in

@@ -1,11 +1,15 @@
 -- A held plate's arrays: where a face's number stands first is its lowest dart, and the next darts go round the face. Assumes nothing.
-use mathlib.Core.Path.{◌≡◌, sym, ap, subst, ◌∙◌}
-use mathlib.Core.Bool.{Bool, true, false}
+use mathlib.Core.Path.{◌≡◌, refl, sym, ap, subst, ◌∙◌}
+use mathlib.Core.Bool.{Bool, true, false, cond, not}
 use mathlib.Core.List.{List, [], ◌∷◌}
 use Prim.Native.Nat.{ℕ, zero, suc, ◌+◌, ◌≤◌, ◌<◌}
 use native.Mathlib.Omega.{arith}
-use lib.ListN.{length, get_or, drop, drop_of_length-le}
-use borrow.Author.Tests.{eq-eqb, ne_eqb}
+use lib.Dec.{eqb, ltb}
+use lib.ListN.{length, get_or}
+use borrow.Author.Tests.{eq-eqb, ne_eqb, ltb-false}
+use Rattle.std.specs.Prelude.{Option, Some, None, unwrap_or}
+use Rattle.std.specs.List.{position_or_len}
+use Rattle.finite.proofs.Tests.{eqb_turned}
 use Rattle.finite.specs.Walks.{orbit, OneToOne}
 use Rattle.finite.proofs.Tables.{up_below}
 use Rattle.embedding.specs.Steps.{next_of}
@@ -13,7 +17,6 @@ use Rattle.embedding.specs.Read.{Stands, lead, place_of}
 use Rattle.embedding.specs.declared.Plate.{Plate as Held}
 use Rattle.embedding.proofs.Rotation.{Ordered, after_one_to_one}
 use Rattle.embedding.proofs.Faces.{face_start, lead_least}
-use Rattle.embedding.proofs.Fronts.{front}
 use Rattle.embedding.proofs.Degrees.{darts_few}
 use Rattle.embedding.proofs.Numbering.{follows_face}
 use Rattle.embedding.proofs.Answers.{number_lead}
@@ -37,16 +40,29 @@ place_first (x ∷ xs) k (suc i) l e n =
     later_first k x xs (λ z. n 0 (omega arith) (sym z))
     ∙ ap suc (place_first xs k i (omega arith) e (λ j m z. n (suc j) (omega arith) z))
 
--- the scan: at i, nothing before
-module _ (k : ℕ) (s : List ℕ) (i : ℕ) (so_far : i + place_of k (drop i s) ≡ place_of k s) where
-  pub scan_hit : i < length s → get_or s i 0 ≡ k → i ≡ place_of k s
-  scan_hit l e = omega (arith, ap (place_of k) (front s i l), here_first k (get_or s i 0) (drop (i + 1) s) (sym e))
+-- what `position` finds
+place_least : (k : ℕ) (xs : List ℕ) → (position_or_len (λ y. eqb y k) xs ≡ place_of k xs) × (place_of k xs ≤ length xs)
+place_least k [] = (refl, omega arith)
+place_least k (x ∷ xs) =
+    let (same, most) = place_least k xs in
+    (ap (λ (b : Bool). cond (not b) (1 + position_or_len (λ y. eqb y k) xs) 0) (eqb_turned x k) ∙ go (eqb k x) same, most_is (eqb k x) most)
+  where
+    go : (b : Bool) {m n : ℕ} → m ≡ n → cond (not b) (1 + m) 0 ≡ elim b as (λ b. ℕ) [ true ↦ 0 | false ↦ suc n ]
+    go true e = refl
+    go false e = omega (arith, e)
 
-  pub scan_miss : i < length s → (get_or s i 0 ≡ k → ⊥) → i + 1 + place_of k (drop (i + 1) s) ≡ place_of k s
-  scan_miss l e = omega (arith, ap (place_of k) (front s i l), later_first k (get_or s i 0) (drop (i + 1) s) (λ z. e (sym z)))
+    most_is : (b : Bool) {n : ℕ} → n ≤ length xs → elim b as (λ b. ℕ) [ true ↦ 0 | false ↦ suc n ] ≤ suc (length xs)
+    most_is true l = omega arith
+    most_is false l = omega arith
 
-  pub scan_end : length s ≤ i → i ≡ place_of k s
-  scan_end l = omega (arith, ap (place_of k) (drop_of_length-le s l))
+pub place_found : (k : ℕ) (xs : List ℕ) {r : Option ℕ} {n : ℕ} → r ≡ cond (ltb (position_or_len (λ y. eqb y k) xs) (length xs)) (Some (position_or_len (λ y. eqb y k) xs)) None → n ≡ unwrap_or r (length xs) → n ≡ place_of k xs
+place_found k xs {r} {n} e h =
+    let (same, most) = place_least k xs in
+    h ∙ ap (λ (o : Option ℕ). unwrap_or o (length xs)) e ∙ go (ltb (position_or_len (λ y. eqb y k) xs) (length xs)) refl ∙ same
+  where
+    go : (b : Bool) → ltb (position_or_len (λ y. eqb y k) xs) (length xs) ≡ b → unwrap_or (cond b (Some (position_or_len (λ y. eqb y k) xs)) None) (length xs) ≡ position_or_len (λ y. eqb y k) xs
+    go true q = refl
+    go false q = omega (arith, ltb-false (position_or_len (λ y. eqb y k) xs) (length xs) q, place_least k xs)
 
 module _ {h : Held} {p : Plate} (s : Stands h p) (a : Accepted p) where
   o : Ordered p

@@ -1,28 +1,29 @@
 -- One entry more of a text: whether it is the plan's next, and what is then known of each dart. Assumes nothing.
 use mathlib.Core.Path.{◌≡◌, refl, sym, ap, subst, ◌∙◌}
-use mathlib.Core.Bool.{Bool, true, false, ◌&&◌, ◌||◌}
+use mathlib.Core.Bool.{Bool, true, false, ◌&&◌, ◌||◌, not, beq}
 use mathlib.Core.List.{List, [], ◌∷◌, ◌++◌}
 use mathlib.Core.Logic.{⊎_elim}
-use Prim.Native.Nat.{ℕ, zero, suc, ◌+◌, ◌<◌}
-use native.Mathlib.Decide.{dec_lt}
+use Prim.Native.Nat.{ℕ, ◌<◌}
 use native.Mathlib.Omega.{arith}
-use lib.Dec.{eqb, ltb}
-use lib.ListN.{length, get_or, set, length-set, length-append, replicate, length-replicate, get_or-replicate, get_or-append}
-use lib.Seq.{get_or-append-add}
-use borrow.Author.Tests.{eqb-true, eq-eqb, ne_eqb, lt-ltb, le-ltb, ltb-true}
+use lib.Dec.{eqb}
+use lib.ListN.{length, set, replicate, length-replicate, get_or-replicate}
+use borrow.Author.Tests.{eqb-true, eq-eqb, ne_eqb}
+use Rattle.std.specs.Prelude.{Option, Some, None}
+use Rattle.std.specs.Option.{option_and_then}
 use Rattle.finite.specs.Tables.{Table}
 use Rattle.finite.proofs.Tables.{table_set}
-use Rattle.finite.proofs.Tests.{and_left, and_right, and_assoc, or_left_false, or_right_false, not_both, not_true_false, same_test}
-use Rattle.finite.proofs.Members.{in_none, in_here, in_more, in_cases, distinct_head, distinct_rest, distinct_more}
+use Rattle.finite.proofs.Tests.{and_left, and_both, or_left_false, or_right_false, not_both, not_true_false}
+use Rattle.finite.proofs.Members.{in_here, in_right, in_cases, distinct_head, distinct_rest}
+use Rattle.shapes.proofs.Words.{bend_same}
 use Rattle.plates.specs.Plates.{pick, is_in, distinct}
 use Rattle.plates.specs.Shapes.{rights, lefts, same_b}
 use Rattle.plates.specs.Text.{Entry, entry}
 use Rattle.plates.specs.Lines.{is_mixed, some_mixed, same_faces, word_of, angle_of, darts_of}
 use Rattle.texts.specs.Plan.{laid}
-use Rattle.texts.specs.Parses.{capped, GotIs, fits, Tables, FilledBy, PlanArrays, Sized}
-use Rattle.texts.specs.declared.scanning.Got.{Got}
-use Rattle.texts.specs.declared.parsing.Filled.{Filled}
-use Rattle.texts.proofs.LaidLaws.{laid_long}
+use Rattle.texts.specs.Parses.{capped, GotIs, left_behind, Tables, FilledBy, IsPlan}
+use Rattle.texts.specs.declared.planning.Turn.{Turn}
+use Rattle.texts.specs.declared.entries.Entry.{Entry as Held}
+use Rattle.texts.specs.declared.parsing.Counted.{Counted}
 
 -- mixed words
 or_assoc : (a b c : Bool) → (a || (b || c)) ≡ ((a || b) || c)
@@ -33,113 +34,58 @@ or_none : (b : Bool) → (b || false) ≡ b
 or_none true = refl
 or_none false = refl
 
-mixed_more : (es : List Entry) (x : Entry) → some_mixed (es ++ (x ∷ [])) ≡ (some_mixed es || is_mixed x.word)
+pub mixed_more : (es : List Entry) (x : Entry) → some_mixed (es ++ (x ∷ [])) ≡ (some_mixed es || is_mixed x.word)
 mixed_more [] x = or_none (is_mixed x.word)
 mixed_more (e ∷ es) x = ap (λ (b : Bool). is_mixed e.word || b) (mixed_more es x) ∙ or_assoc (is_mixed e.word) (some_mixed es) (is_mixed x.word)
 
--- the plan's next entry
-abbrev none : Entry
-none = entry 0 [] 0 false
-
+-- what is left of the plan
 abbrev matches : Entry → Entry → Bool
 matches x y = eqb x.dart y.dart && same_b x.ends y.ends
 
-and_none : (b : Bool) → (b && true) ≡ b
-and_none true = refl
-and_none false = refl
-
-fits_more : (es plan : List Entry) (x : Entry) → fits (es ++ (x ∷ [])) plan ≡ (fits es plan && (ltb (length es) (length plan) && matches x (get_or plan (length es) none)))
-fits_more [] [] x = refl
-fits_more [] (y ∷ plan) x = and_none (matches x y) ∙ sym (ap (λ (b : Bool). b && matches x y) (lt-ltb 0 (suc (length plan)) (omega arith)))
-fits_more (e ∷ es) [] x = refl
-fits_more (e ∷ es) (y ∷ plan) x =
-    ap (λ (b : Bool). matches e y && b) (fits_more es plan x)
-    ∙ and_assoc (matches e y) (fits es plan) (ltb (length es) (length plan) && matches x (get_or plan (length es) none))
-    ∙ ap (λ (b : Bool). (matches e y && fits es plan) && (b && matches x (get_or plan (length es) none))) (shift (length es) (length plan))
+left_more : (es plan : List Entry) (x : Entry) → left_behind (es ++ (x ∷ [])) plan ≡ option_and_then (left_behind (x ∷ [])) (left_behind es plan)
+left_more [] plan x = refl
+left_more (e ∷ es) [] x = refl
+left_more (e ∷ es) (y ∷ plan) x = go (matches e y) (left_behind es plan) (left_more es plan x)
   where
-    shift : (a b : ℕ) → ltb a b ≡ ltb (suc a) (suc b)
-    shift a b = same_test (ltb a b) (ltb (suc a) (suc b)) (λ h. lt-ltb (suc a) (suc b) (omega (arith, ltb-true a b h))) (λ h. lt-ltb a b (omega (arith, ltb-true (suc a) (suc b) h)))
+    go : (b : Bool) {l : Option (List Entry)} (m : Option (List Entry)) → l ≡ option_and_then (left_behind (x ∷ [])) m → pick b l None ≡ option_and_then (left_behind (x ∷ [])) (pick b m None)
+    go true m ih = ih
+    go false m ih = refl
 
-pub same_fits : (es plan : List Entry) → same_faces es plan ≡ (fits es plan && eqb (length es) (length plan))
-same_fits [] [] = refl
-same_fits [] (y ∷ plan) = sym (ne_eqb 0 (suc (length plan)) (λ z. omega arith))
-same_fits (e ∷ es) [] = refl
-same_fits (e ∷ es) (y ∷ plan) =
-    ap (λ (b : Bool). matches e y && b) (same_fits es plan)
-    ∙ and_assoc (matches e y) (fits es plan) (eqb (length es) (length plan))
-    ∙ ap (λ (b : Bool). (matches e y && fits es plan) && b) (shift (length es) (length plan))
+-- nothing is left exactly of entries that have the plan's darts and ends of lines
+abbrev pub none_left : Option (List Entry) → Bool
+none_left None = false
+none_left (Some []) = true
+none_left (Some (x ∷ xs)) = false
+
+pub same_left : (es plan : List Entry) → same_faces es plan ≡ none_left (left_behind es plan)
+same_left [] [] = refl
+same_left [] (y ∷ plan) = refl
+same_left (e ∷ es) [] = refl
+same_left (e ∷ es) (y ∷ plan) = go (matches e y) (left_behind es plan) (same_left es plan)
   where
-    shift : (a b : ℕ) → eqb a b ≡ eqb (suc a) (suc b)
-    shift a b = same_test (eqb a b) (eqb (suc a) (suc b)) (λ h. eq-eqb (suc a) (suc b) (ap suc (eqb-true a b h))) (λ h. eq-eqb a b (let q = eqb-true (suc a) (suc b) h in omega arith))
+    go : (b : Bool) {c : Bool} (m : Option (List Entry)) → c ≡ none_left m → (b && c) ≡ none_left (pick b m None)
+    go true m e = e
+    go false m e = refl
 
-laid_at : (n : ℕ) (o : List ℕ) (e : List Bool) (i : ℕ) → i < n → get_or (laid n o e) i none ≡ entry (get_or o i 0) [] 0 (get_or e i false)
-laid_at zero o e i l = absurd (omega arith)
-laid_at (suc n) o e i l = go (dec_lt i n) (laid_at n o e i)
+-- the darts of a plan are those of its first entries and of what is left
+left_darts : (es plan : List Entry) {xs : List Entry} → left_behind es plan ≡ Some xs → darts_of plan ≡ darts_of es ++ darts_of xs
+left_darts [] plan h = ap darts_of (some_same h)
   where
-    go : Dec (i < n) → (i < n → get_or (laid n o e) i none ≡ entry (get_or o i 0) [] 0 (get_or e i false)) → get_or (laid n o e ++ (entry (get_or o n 0) [] 0 (get_or e n false) ∷ [])) i none ≡ entry (get_or o i 0) [] 0 (get_or e i false)
-    go (yes k) ih = get_or-append (laid n o e) (entry (get_or o n 0) [] 0 (get_or e n false) ∷ []) none i (omega (arith, laid_long n o e)) ∙ ih k
-    go (no k) ih =
-        let q : i ≡ n = omega arith in
-        let at : i ≡ length (laid n o e) + 0 = omega (arith, laid_long n o e) in
-        ap (λ (j : ℕ). get_or (laid n o e ++ (entry (get_or o n 0) [] 0 (get_or e n false) ∷ [])) j none) at
-        ∙ get_or-append-add (laid n o e) (entry (get_or o n 0) [] 0 (get_or e n false) ∷ []) 0 none
-        ∙ ap (λ (j : ℕ). entry (get_or o j 0) [] 0 (get_or e j false)) (sym q)
-
--- a number told below 1000 is compared as the whole number
-capped_test : (m d : ℕ) → d < 256 → eqb (capped m) d ≡ eqb m d
-capped_test m d l = same_test (eqb (capped m) d) (eqb m d) (λ h. let q = eqb-true (capped m) d h in eq-eqb m d (omega arith)) (λ h. let q = eqb-true m d h in eq-eqb (capped m) d (omega arith))
-
-module _ {n : ℕ} {o : List ℕ} {e : List Bool} (arrays : PlanArrays n o e) where
-  abbrev plan : List Entry
-  plan = laid n o e
-
-  -- the code's test of entry i
-  next_test : (i : ℕ) (x : Entry) (d : ℕ) (b : Bool) → d ≡ capped x.dart → b ≡ x.ends
-      → (ltb i n && (eqb d (get_or o i 0) && same_b b (get_or e i false))) ≡ (ltb i (length plan) && matches x (get_or plan i none))
-  next_test i x d b d-is b-is = go (dec_lt i n)
-    where
-      go : Dec (i < n) → (ltb i n && (eqb d (get_or o i 0) && same_b b (get_or e i false))) ≡ (ltb i (length plan) && matches x (get_or plan i none))
-      go (yes l) =
-          let dart : eqb d (get_or o i 0) ≡ eqb x.dart (get_or o i 0) = ap (λ (k : ℕ). eqb k (get_or o i 0)) d-is ∙ capped_test x.dart (get_or o i 0) (arrays.below i l) in
-          let here = laid_at n o e i l in
-          let end : same_b b (get_or e i false) ≡ same_b x.ends (get_or e i false) = ap (λ (c : Bool). same_b c (get_or e i false)) b-is in
-          let long = laid_long n o e in
-          (λ j. ltb i n && (dart j && end j))
-          ∙ ap (λ (k : ℕ). ltb i k && (eqb x.dart (get_or o i 0) && same_b x.ends (get_or e i false))) (sym long)
-          ∙ ap (λ (y : Entry). ltb i (length plan) && matches x y) (sym here)
-      go (no l) =
-          ap (λ (c : Bool). c && (eqb d (get_or o i 0) && same_b b (get_or e i false))) (le-ltb i n (omega arith))
-          ∙ sym (ap (λ (c : Bool). c && matches x (get_or plan i none)) (le-ltb i (length plan) (omega (arith, laid_long n o e))))
-
--- darts of the first entries of a plan are distinct
-fits_in : (es plan : List Entry) (d : ℕ) → fits es plan ≡ true → is_in d (darts_of es) ≡ true → is_in d (darts_of plan) ≡ true
-fits_in [] plan d f h = absurd (in_none d h)
-fits_in (e ∷ es) [] d f h = absurd (not_both f refl)
-fits_in (e ∷ es) (y ∷ plan) d f h =
-    let q : e.dart ≡ y.dart = eqb-true e.dart y.dart (and_left (eqb e.dart y.dart) _ (and_left (matches e y) _ f)) in
-    ⊎_elim (λ z. subst (λ (k : ℕ). is_in d (k ∷ darts_of plan) ≡ true) (z ∙ q) (in_here d (darts_of plan)))
-    (λ z. in_more d y.dart (darts_of plan) (fits_in es plan d (and_right (matches e y) _ f) z)) (in_cases d e.dart (darts_of es) h)
-
-fits_distinct : (es plan : List Entry) → fits es plan ≡ true → distinct (darts_of plan) ≡ true → distinct (darts_of es) ≡ true
-fits_distinct [] plan f h = refl
-fits_distinct (e ∷ es) [] f h = absurd (not_both f refl)
-fits_distinct (e ∷ es) (y ∷ plan) f h =
-    let q : e.dart ≡ y.dart = eqb-true e.dart y.dart (and_left (eqb e.dart y.dart) _ (and_left (matches e y) _ f)) in
-    let more = and_right (matches e y) _ f in
-    distinct_more e.dart (darts_of es)
-    (not_true_false (is_in e.dart (darts_of es)) (λ z. not_both (subst (λ (k : ℕ). is_in k (darts_of plan) ≡ true) q (fits_in es plan e.dart more z)) (distinct_head y.dart (darts_of plan) h)))
-    (fits_distinct es plan more (distinct_rest y.dart (darts_of plan) h))
-
-last_new : (es : List Entry) (x : Entry) → distinct (darts_of (es ++ (x ∷ []))) ≡ true → is_in x.dart (darts_of es) ≡ false
-last_new [] x h = refl
-last_new (e ∷ es) x h =
-    not_true_false (is_in x.dart (e.dart ∷ darts_of es))
-    (λ z. ⊎_elim (λ q. not_both (subst (λ (k : ℕ). is_in k (darts_of (es ++ (x ∷ []))) ≡ true) q (last_in es x)) (distinct_head e.dart (darts_of (es ++ (x ∷ []))) h))
-    (λ q. not_both q (last_new es x (distinct_rest e.dart (darts_of (es ++ (x ∷ []))) h))) (in_cases x.dart e.dart (darts_of es) z))
+    some_same : {A : Type 0} {x y : A} → Some x ≡ Some y → x ≡ y
+    some_same e = cc e
+left_darts (e ∷ es) [] h = absurd (cc)
+left_darts (e ∷ es) (y ∷ plan) {xs} h = go (matches e y) refl h (left_darts es plan)
   where
-    last_in : (es : List Entry) (x : Entry) → is_in x.dart (darts_of (es ++ (x ∷ []))) ≡ true
-    last_in [] x = in_here x.dart []
-    last_in (e ∷ es) x = in_more x.dart e.dart (darts_of (es ++ (x ∷ []))) (last_in es x)
+    go : (b : Bool) → matches e y ≡ b → pick b (left_behind es plan) None ≡ Some xs → (left_behind es plan ≡ Some xs → darts_of plan ≡ darts_of es ++ darts_of xs) → y.dart ∷ darts_of plan ≡ e.dart ∷ (darts_of es ++ darts_of xs)
+    go true t k more = (λ i. sym (eqb-true e.dart y.dart (and_left (eqb e.dart y.dart) _ t)) i ∷ more k i)
+    go false t k more = absurd (cc)
+
+new_dart : (d : ℕ) (ds ms : List ℕ) → distinct (ds ++ (d ∷ ms)) ≡ true → is_in d ds ≡ false
+new_dart d [] ms h = refl
+new_dart d (e ∷ ds) ms h =
+    not_true_false (is_in d (e ∷ ds))
+    (λ z. ⊎_elim (λ q. not_both (subst (λ (k : ℕ). is_in k (ds ++ (d ∷ ms)) ≡ true) q (in_right d ds (d ∷ ms) (in_here d ms))) (distinct_head e (ds ++ (d ∷ ms)) h))
+    (λ q. not_both q (new_dart d ds ms (distinct_rest e (ds ++ (d ∷ ms)) h))) (in_cases d e ds z))
 
 -- words and angles by dart, one entry more
 module _ (x : Entry) where
@@ -174,84 +120,80 @@ module _ (x : Entry) where
         lefts = table_set 256 (λ i. lefts (word_of i es)) (λ i. lefts (word_of i (es ++ (x ∷ [])))) l d left t.lefts below (l-is ∙ ap lefts (sym word)) (λ i n. ap lefts (word_other i es (λ z. n (z ∙ sym d-is))));
       }
 
+-- the code's comparison
+pub ends_same : (a b : Bool) → not (beq a b) ≡ false → a ≡ b
+ends_same true true e = refl
+ends_same true false e = absurd (cc)
+ends_same false true e = absurd (cc)
+ends_same false false e = refl
+
+pub ends_other : (a b : Bool) → not (beq a b) ≡ true → a ≡ b → ⊥
+ends_other true true e z = cc
+ends_other true false e z = cc
+ends_other false true e z = cc
+ends_other false false e z = cc
+
+same_ends : (a b : Bool) → a ≡ b → same_b a b ≡ true
+same_ends a b e = subst (λ (c : Bool). same_b a c ≡ true) e (bend_same a)
+
+other_ends : (a b : Bool) → (a ≡ b → ⊥) → same_b a b ≡ false
+other_ends true true n = absurd (n refl)
+other_ends true false n = refl
+other_ends false true n = refl
+other_ends false false n = absurd (n refl)
+
 -- an entry taken
-module _ {n : ℕ} {o : List ℕ} {e : List Bool} (arrays : PlanArrays n o e) {f : Filled} {a r l : List ℕ} {got : Got} {mixed both : Bool}
-    (both_is : both ≡ (ltb 0 got.right && ltb 0 got.left)) (mixed-is : mixed ≡ (f.mixed || both)) (es : List Entry) (x : Entry) (is : GotIs x got) (filled : FilledBy (laid n o e) es f a r l) where
-  more_mixed : mixed ≡ some_mixed (es ++ (x ∷ []))
-  more_mixed =
-      let right = is.right in
-      let left = is.left in
-      mixed-is ∙ (λ i. filled.mixed i || both) ∙ ap (λ (b : Bool). some_mixed es || b) (both_is ∙ (λ i. ltb 0 (right i) && ltb 0 (left i))) ∙ sym (mixed_more es x)
+module _ {plan es : List Entry} (x : Entry) {e : Held} {left : Option (List Entry)} {c : Counted} (once : IsPlan plan) (is : GotIs x e) (filled : FilledBy plan es left c) where
+  then_left : left_behind (es ++ (x ∷ [])) plan ≡ option_and_then (left_behind (x ∷ [])) left
+  then_left = left_more es plan x ∙ ap (option_and_then (left_behind (x ∷ []))) (sym filled.left_is)
 
-  -- not the plan's, since an entry before was not
-  pub taken_late : {q : Filled} → f.fits ≡ false → q.mixed ≡ mixed → q.fits ≡ false → FilledBy (laid n o e) (es ++ (x ∷ [])) q a r l
-  taken_late {q} late m z = record {
-    mixed = m ∙ more_mixed;
-    fitting = z ∙ sym (fits_more es (laid n o e) x ∙ ap (λ (b : Bool). b && (ltb (length es) (length (laid n o e)) && matches x (get_or (laid n o e) (length es) none))) (sym filled.fitting ∙ late));
-    count = λ t. absurd (not_both t z);
-    tables = λ t. absurd (not_both t z);
-  }
+  nothing_left : left_behind (es ++ (x ∷ [])) plan ≡ None → FilledBy plan (es ++ (x ∷ [])) None c
+  nothing_left n = record { left_is = sym n; tables = λ xs z. absurd (cc) }
 
-  module _ (good : f.fits ≡ true) {planned : Bool} (planned-is : planned ≡ (ltb f.count n && (eqb got.dart (get_or o f.count 0) && same_b got.ends (get_or e f.count false)))) where
-    abbrev i : ℕ
-    i = f.count
+  -- not the plan's, since an entry before was not, or since nothing of it is left
+  pub taken_late : left ≡ None → FilledBy plan (es ++ (x ∷ [])) None c
+  taken_late n = nothing_left (then_left ∙ ap (option_and_then (left_behind (x ∷ []))) n)
 
-    fits_is : fits (es ++ (x ∷ [])) (laid n o e) ≡ planned
-    fits_is =
-        fits_more es (laid n o e) x
-        ∙ ap (λ (b : Bool). b && (ltb (length es) (length (laid n o e)) && matches x (get_or (laid n o e) (length es) none))) (sym filled.fitting ∙ good)
-        ∙ ap (λ (j : ℕ). ltb j (length (laid n o e)) && matches x (get_or (laid n o e) j none)) (sym (filled.count good))
-        ∙ sym (planned-is ∙ next_test arrays i x got.dart got.ends is.dart is.ends)
+  pub taken_behind : (ts : List Turn) → length ts ≡ 0 → left ≡ Some (laid ts) → FilledBy plan (es ++ (x ∷ [])) None c
+  taken_behind [] z n = nothing_left (then_left ∙ ap (option_and_then (left_behind (x ∷ []))) n)
+  taken_behind (t ∷ ts) z n = absurd (omega arith)
 
-    pub taken_other : {q : Filled} → planned ≡ false → q.mixed ≡ mixed → q.fits ≡ false → FilledBy (laid n o e) (es ++ (x ∷ [])) q a r l
-    taken_other {q} other m z = record {
-      mixed = m ∙ more_mixed;
-      fitting = z ∙ sym (fits_is ∙ other);
-      count = λ t. absurd (not_both t z);
-      tables = λ t. absurd (not_both t z);
-    }
+  module _ (t : Turn) (rest : List Turn) (next : left ≡ Some (laid (t ∷ rest))) {d : ℕ} (d-is : d ≡ t.dart) (below : d < 256) where
+    by_test : left_behind (es ++ (x ∷ [])) plan ≡ pick (matches x (entry t.dart [] 0 t.last)) (Some (laid rest)) None
+    by_test = then_left ∙ ap (option_and_then (left_behind (x ∷ []))) next
 
-    module _ (yes-planned : planned ≡ true) where
-      test : (ltb i n && (eqb got.dart (get_or o i 0) && same_b got.ends (get_or e i false))) ≡ true
-      test = sym planned-is ∙ yes-planned
+    dart_is : e.dart ≡ capped x.dart
+    dart_is = ap (λ (h : Held). h.dart) is
 
-      i_below : i < n
-      i_below = ltb-true i n (and_left (ltb i n) _ test)
+    last_is : e.last ≡ x.ends
+    last_is = ap (λ (h : Held). h.last) is
 
-      dart_is : get_or o i 0 ≡ x.dart
-      dart_is =
-          let q = eqb-true got.dart (get_or o i 0) (and_left (eqb got.dart (get_or o i 0)) _ (and_right (ltb i n) _ test)) in
-          omega (arith, is.dart, arrays.below i i_below)
+    -- not the plan's
+    pub other_dart : (e.dart ≡ d → ⊥) → FilledBy plan (es ++ (x ∷ [])) None c
+    other_dart n = nothing_left (by_test ∙ ap (λ (b : Bool). pick (b && same_b x.ends t.last) (Some (laid rest)) None) (ne_eqb x.dart t.dart (λ z. n (omega (arith, dart_is, d-is, z)))))
 
-      pub taken_planned : {d : ℕ} → d ≡ get_or o i 0 → FilledBy (laid n o e) (es ++ (x ∷ [])) (record { mixed = mixed; fits = true; count = i + 1 }) (set a d got.angle) (set r d got.right) (set l d got.left)
-      taken_planned {d} d-is = record {
-        mixed = more_mixed;
-        fitting = sym (fits_is ∙ yes-planned);
-        count = λ z. omega (arith, filled.count good, length-append es (x ∷ []));
-        tables = λ z. tables_more x d got.angle got.right got.left (filled.tables good) new (d-is ∙ dart_is) (omega (arith, d-is, arrays.below i i_below)) is.angle is.right is.left;
-      }
-        where
-          new : is_in x.dart (darts_of es) ≡ false
-          new = last_new es x (fits_distinct (es ++ (x ∷ [])) (laid n o e) (fits_is ∙ yes-planned) arrays.once)
+    pub other_end : e.dart ≡ d → (e.last ≡ t.last → ⊥) → FilledBy plan (es ++ (x ∷ [])) None c
+    other_end q n = nothing_left (by_test ∙ (λ i. pick (eq-eqb x.dart t.dart (omega (arith, dart_is, d-is, q)) i && other_ends x.ends t.last (λ z. n (last_is ∙ z)) i) (Some (laid rest)) None))
 
-pub sized_set : {a r l : List ℕ} (d angle right left : ℕ) → Sized a r l → Sized (set a d angle) (set r d right) (set l d left)
-sized_set {a} {r} {l} d angle right left s = record { angles = length-set a d angle ∙ s.angles; rights = length-set r d right ∙ s.rights; lefts = length-set l d left ∙ s.lefts }
+    pub taken_planned : e.dart ≡ d → e.last ≡ t.last → FilledBy plan (es ++ (x ∷ [])) (Some (laid rest)) (record { angles = set c.angles d e.angle; rights = set c.rights d e.right; lefts = set c.lefts d e.left })
+    taken_planned q z =
+        let same : x.dart ≡ t.dart = omega (arith, dart_is, d-is, q) in
+        record {
+          left_is = sym (by_test ∙ ap (λ (b : Bool). pick b (Some (laid rest)) None) (and_both (eqb x.dart t.dart) (same_b x.ends t.last) (eq-eqb x.dart t.dart same) (same_ends x.ends t.last (sym last_is ∙ z))));
+          tables = λ xs k. tables_more x d e.angle e.right e.left (filled.tables (laid (t ∷ rest)) next) new (d-is ∙ sym same) below (ap (λ (h : Held). h.angle) is) (ap (λ (h : Held). h.right) is) (ap (λ (h : Held). h.left) is);
+        }
+      where
+        new : is_in x.dart (darts_of es) ≡ false
+        new =
+            let same : x.dart ≡ t.dart = omega (arith, dart_is, d-is, q) in
+            ap (λ (k : ℕ). is_in k (darts_of es)) same ∙ new_dart t.dart (darts_of es) (darts_of (laid rest)) (sym (ap distinct (left_darts es plan (sym filled.left_is ∙ next))) ∙ once)
 
 -- nothing read
 nothing_table : Table 256 (λ d. 0) (replicate 256 0)
 nothing_table = record { size = length-replicate {A = ℕ} 256 0; at = λ i l. get_or-replicate {A = ℕ} 256 i 0 0 l }
 
-pub nothing_sized : Sized (replicate 256 0) (replicate 256 0) (replicate 256 0)
-nothing_sized = record { angles = length-replicate {A = ℕ} 256 0; rights = length-replicate {A = ℕ} 256 0; lefts = length-replicate {A = ℕ} 256 0 }
-
-pub nothing_filled : (plan : List Entry) → FilledBy plan [] (record { mixed = false; fits = true; count = 0 }) (replicate 256 0) (replicate 256 0) (replicate 256 0)
+pub nothing_filled : (plan : List Entry) → FilledBy plan [] (Some plan) (record { angles = replicate 256 0; rights = replicate 256 0; lefts = replicate 256 0 })
 nothing_filled plan = record {
-  mixed = refl;
-  fitting = refl;
-  count = λ t. refl;
-  tables = λ t. record { angles = nothing_table; rights = nothing_table; lefts = nothing_table };
+  left_is = refl;
+  tables = λ xs z. record { angles = nothing_table; rights = nothing_table; lefts = nothing_table };
 }
-
--- a planned entry stands within the plan
-pub planned_place : (o : List ℕ) (e : List Bool) (i n d : ℕ) (b planned : Bool) → planned ≡ (ltb i n && (eqb d (get_or o i 0) && same_b b (get_or e i false))) → planned ≡ true → i < n
-planned_place o e i n d b planned q t = ltb-true i n (and_left (ltb i n) _ (sym q ∙ t))

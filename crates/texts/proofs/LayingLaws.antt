@@ -1,11 +1,10 @@
 -- The faces laid one after the other, the outer one first, are the plan of the text. Assumes nothing.
 use mathlib.Core.Path.{◌≡◌, refl, sym, ap, ◌∙◌}
-use mathlib.Core.Bool.{false}
 use mathlib.Core.List.{List, [], ◌∷◌, ◌++◌, append_assoc, append-nil}
-use Prim.Native.Nat.{ℕ, suc, ◌+◌, ◌≤◌, ◌<◌}
+use Prim.Native.Nat.{ℕ, ◌+◌, ◌≤◌, ◌<◌}
 use native.Mathlib.Numerals.{add-one}
 use native.Mathlib.Omega.{arith}
-use lib.ListN.{length, get_or, take, drop, length-append, take-append-drop, replicate, length-replicate}
+use lib.ListN.{length, get_or, take, drop, length-append, take-append-drop}
 use lib.Seq.{take-suc, take_all}
 use Rattle.finite.specs.Walks.{orbit}
 use Rattle.embedding.specs.Steps.{next_of}
@@ -20,12 +19,12 @@ use Rattle.shapes.proofs.Places.{face_below_darts, index_of_lead}
 use Rattle.shapes.proofs.HeldPlate.{few_faces, faces_are}
 use Rattle.plates.specs.Plates.{Plate, darts, face_of, faces}
 use Rattle.plates.specs.Text.{Entry}
-use Rattle.plates.specs.Lines.{without, sequence, line, lines, face_entries}
-use Rattle.texts.specs.Plan.{laid, laid_in, FaceRoom, FaceLaid, NumberFits, NumberLaid, OuterIs, Laying, PlanHeld}
-use Rattle.texts.specs.declared.planning.Laid.{Laid}
+use Rattle.plates.specs.Lines.{without, sequence, line, lines}
+use Rattle.texts.specs.Plan.{laid, FaceRoom, FaceLaid, NumberFits, NumberLaid, OuterIs, Laying, PlanHeld}
+use Rattle.texts.specs.declared.planning.Turn.{Turn}
 use Rattle.texts.proofs.Without.{without_append, without_same, without_other}
 use Rattle.texts.proofs.Around.{plan_many}
-use Rattle.texts.proofs.LaidLaws.{laid_long}
+use Rattle.texts.proofs.LaidLaws.{laid_long, line_long}
 use Rattle.texts.proofs.FaceLeads.{few, held_one, held_face, number_start}
 use Rattle.texts.proofs.TextBack.{outer_below}
 
@@ -33,13 +32,8 @@ lines_append : (p : Plate) (ds es : List ℕ) → lines p [] [] (ds ++ es) ≡ l
 lines_append p [] es = refl
 lines_append p (d ∷ ds) es = ap (λ (l : List Entry). line [] [] (face_of p d) ++ l) (lines_append p ds es) ∙ sym (append_assoc (line [] [] (face_of p d)) (lines p [] [] ds) (lines p [] [] es))
 
-line_long : (ds : List ℕ) → length (line [] [] ds) ≡ length ds
-line_long [] = refl
-line_long (d ∷ []) = refl
-line_long (d ∷ (e ∷ ds)) = ap suc (line_long (e ∷ ds))
-
 -- what a held plate gives for the face of a number
-module _ {h : Held} {p : Plate} (s : Stands h p) (a : Accepted p) {number start : ℕ} {q : Laid} (fits : NumberFits p number q) (start_is : start ≡ place_of number h.face) where
+module _ {h : Held} {p : Plate} (s : Stands h p) (a : Accepted p) {number start : ℕ} {q : List Turn} (fits : NumberFits p number q) (start_is : start ≡ place_of number h.face) where
   abbrev d : ℕ
   d = get_or (faces p) number 0
 
@@ -57,18 +51,11 @@ module _ {h : Held} {p : Plate} (s : Stands h p) (a : Accepted p) {number start 
     few = omega (arith, s.dart_count, few s a);
     below = omega (arith, start_lead, d_below, s.dart_count);
     one = held_one s a;
-    order_long = fits.order_long;
-    ends_long = fits.ends_long;
     enough = omega (arith, fits.enough, ap length walk_is);
   }
 
-  pub number_laid : {r : Laid} → FaceLaid h.next h.darts start q r → NumberLaid p number q r
-  number_laid f = record {
-    order_long = f.order_long;
-    ends_long = f.ends_long;
-    at = f.at ∙ ap (λ (l : List ℕ). q.at + length l) walk_is;
-    entries = f.entries ∙ ap (λ (l : List ℕ). laid_in q ++ line [] [] l) walk_is;
-  }
+  pub number_laid : (r : List Turn) → FaceLaid h.next h.darts start q r → NumberLaid p number q r
+  number_laid r f = f ∙ ap (λ (l : List ℕ). laid q ++ line [] [] l) walk_is
 
 -- as many faces, whichever plate is held
 pub same-faces : {h : Held} {p u : Plate} {k : ℕ} → Stands h p → Stands h u → k < length (faces p) → k < length (faces u)
@@ -111,15 +98,10 @@ module _ (p : Plate) (a : Accepted p) where
     outer_lead = ap (λ (j : ℕ). get_or (faces p) j 0) outer_is ∙ number_lead p (ordered p a) p.outer (outer_below p a)
 
     -- the outer face is laid already
-    pub laying_same : {q : Laid} → k ≡ outer → Laying p k q → Laying p (k + 1) q
-    laying_same {q} e y =
+    pub laying_same : (q : List Turn) → k ≡ outer → Laying p k q → Laying p (k + 1) q
+    laying_same q e y =
         let same : first ≡ next_lead = sym outer_lead ∙ ap (λ (j : ℕ). get_or (faces p) j 0) (sym e) in
-        record {
-          order_long = y.order_long;
-          ends_long = y.ends_long;
-          at = y.at;
-          entries = y.entries ∙ ap (lines p [] []) (sym (parted ∙ ap (λ (x : List ℕ). so_far k ++ x) (without_same first next_lead same) ∙ append-nil (so_far k)));
-        }
+        y ∙ ap (lines p [] []) (sym (parted ∙ ap (λ (x : List ℕ). so_far k ++ x) (without_same first next_lead same) ∙ append-nil (so_far k)))
 
     module _ (n : k ≡ outer → ⊥) where
       differs : first ≡ next_lead → ⊥
@@ -131,15 +113,13 @@ module _ (p : Plate) (a : Accepted p) where
           ∙ lines_append p (so_far k) (next_lead ∷ [])
           ∙ ap (λ (x : List Entry). lines p [] [] (so_far k) ++ x) (append-nil (line [] [] (face_of p next_lead)))
 
-      pub laying_fits : {q : Laid} → Laying p k q → NumberFits p k q
-      laying_fits {q} y = record {
+      pub laying_fits : (q : List Turn) → Laying p k q → NumberFits p k q
+      laying_fits q y = record {
         there = l;
-        order_long = y.order_long;
-        ends_long = y.ends_long;
         enough = omega (
           arith,
-          y.at,
-          ap length y.entries,
+          laid_long q,
+          ap length y,
           so_far_most (k + 1),
           ap length more,
           length-append (lines p [] [] (so_far k)) (line [] [] (face_of p next_lead)),
@@ -148,18 +128,10 @@ module _ (p : Plate) (a : Accepted p) where
         );
       }
 
-      pub laying_more : {q r : Laid} → Laying p k q → NumberLaid p k q r → Laying p (k + 1) r
-      laying_more {q} {r} y z = record {
-        order_long = z.order_long;
-        ends_long = z.ends_long;
-        at = sym (laid_long r.at r.order r.ends);
-        entries = z.entries ∙ ap (λ (x : List Entry). x ++ line [] [] (face_of p next_lead)) y.entries ∙ sym more;
-      }
+      pub laying_more : (q r : List Turn) → Laying p k q → NumberLaid p k q r → Laying p (k + 1) r
+      laying_more q r y z = z ∙ ap (λ (x : List Entry). x ++ line [] [] (face_of p next_lead)) y ∙ sym more
 
 -- nothing laid, the outer face laid, all laid
-abbrev pub nothing : Laid
-nothing = record { order = replicate 256 0; ends = replicate 256 false; at = 0 }
-
 module _ {h : Held} {p : Plate} (s : Stands h p) (a : Accepted p) (outer : ℕ) (outer_is : OuterIs p outer) where
   o : Ordered p
   o = ordered p a
@@ -170,32 +142,17 @@ module _ {h : Held} {p : Plate} (s : Stands h p) (a : Accepted p) (outer : ℕ) 
   first_most : length (face_of p (get_or (faces p) outer 0)) ≤ darts p
   first_most = omega (arith, so_far_most p a 0, ap (λ (x : ℕ). length (face_of p x)) outer_first, ap length (append-nil (line [] [] (face_of p (lead p p.outer)))), line_long (face_of p (lead p p.outer)))
 
-  pub outer_fits : NumberFits p outer nothing
-  outer_fits = record {
+  pub outer_fits : (q : List Turn) → q ≡ [] → NumberFits p outer q
+  outer_fits q e = record {
     there = omega (arith, number_below p o p.outer (outer_below p a));
-    order_long = length-replicate {A = ℕ} 256 0;
-    ends_long = length-replicate 256 false;
-    enough = omega (arith, first_most, few s a);
+    enough = omega (arith, first_most, few s a, ap length e);
   }
 
-  pub outer_laid : {r : Laid} → NumberLaid p outer nothing r → Laying p 0 r
-  outer_laid {r} z = record {
-    order_long = z.order_long;
-    ends_long = z.ends_long;
-    at = sym (laid_long r.at r.order r.ends);
-    entries = z.entries ∙ ap (λ (x : ℕ). line [] [] (face_of p x)) outer_first ∙ sym (append-nil (line [] [] (face_of p (lead p p.outer))));
-  }
+  pub outer_laid : (q r : List Turn) → q ≡ [] → NumberLaid p outer q r → Laying p 0 r
+  outer_laid q r e z = z ∙ ap (λ (x : List Turn). laid x ++ line [] [] (face_of p (get_or (faces p) outer 0))) e ∙ ap (λ (x : ℕ). line [] [] (face_of p x)) outer_first ∙ sym (append-nil (line [] [] (face_of p (lead p p.outer))))
 
-  pub laying_done : {k : ℕ} {q : Laid} → length (faces p) ≤ k → Laying p k q → PlanHeld p q
-  laying_done {k} {q} l y =
-      let whole : laid_in q ≡ face_entries p [] [] = y.entries ∙ ap (λ (x : List ℕ). lines p [] [] (lead p p.outer ∷ without (lead p p.outer) x)) (take_all k (faces p) l) in
-      let many : q.at ≡ darts p = y.at ∙ ap length whole ∙ plan_many p o (outer_below p a) in
-      record {
-        order_long = y.order_long;
-        ends_long = y.ends_long;
-        at = many;
-        entries = ap (λ (n : ℕ). laid n q.order q.ends) (sym many) ∙ whole;
-      }
+  pub laying_done : {k : ℕ} (q : List Turn) → length (faces p) ≤ k → Laying p k q → PlanHeld p q
+  laying_done {k} q l y = y ∙ ap (λ (x : List ℕ). lines p [] [] (lead p p.outer ∷ without (lead p p.outer) x)) (take_all k (faces p) l)
 
 -- the number that the outer dart has
 pub outer_number : {h : Held} {p : Plate} {d : ℕ} → Stands h p → Accepted p → d ≡ h.outer → OuterIs p (get_or h.face d 0)

@@ -1,166 +1,164 @@
 -- A text read entry by entry: the rest of the text answers for the whole, and what was read is what its entries say. Assumes nothing.
 use mathlib.Core.Path.{◌≡◌, refl, sym, ap, subst, ◌∙◌}
-use mathlib.Core.Bool.{Bool, true, false, ◌&&◌, not}
+use mathlib.Core.Bool.{Bool, true, false, ◌&&◌, ◌||◌, not}
 use mathlib.Core.List.{List, [], ◌∷◌, ◌++◌, append_assoc, append-nil}
-use Prim.Native.Nat.{ℕ, zero, suc, ◌+◌, ◌≤◌, ◌<◌}
+use Prim.Native.Nat.{ℕ, zero, suc, ◌<◌}
 use native.Mathlib.Omega.{arith}
-use lib.Dec.{eqb}
-use lib.ListN.{length, drop, length-drop, drop_of_length-le}
-use lib.Seq.{drop-drop}
+use lib.Dec.{eqb, ltb}
+use lib.ListN.{length}
 use borrow.Author.Tests.{ne_eqb}
+use Rattle.std.specs.Prelude.{Option, Some, None, Ok, Err}
+use Rattle.refusals.specs.Numbers.{number_of}
+use Rattle.refusals.specs.declared.Refusal.{Refusal}
+use Rattle.refusals.specs.declared.Refusal.TheVariants.{TextForm, MixedWord, TextFaces}
 use Rattle.plates.specs.Plates.{pick, first_of, when}
 use Rattle.plates.specs.Text.{Entry}
 use Rattle.plates.specs.Grammar.{entry_ok, entry_in, behind, form_from, entries_from, form_ok, entries_in}
 use Rattle.plates.specs.Lines.{some_mixed, same_faces}
-use Rattle.texts.specs.Parses.{EntryGot, EntryRead, GotIs, fits, FilledBy, Sized, entries_fault, entries_number, ParsedBy}
-use Rattle.texts.specs.declared.scanning.Got.{Got}
-use Rattle.texts.specs.declared.parsing.Filled.{Filled}
-use Rattle.texts.specs.declared.parsing.Parsed.{Parsed}
-use Rattle.texts.proofs.FillLaws.{same_fits}
+use Rattle.texts.specs.Plan.{laid}
+use Rattle.texts.specs.Parses.{held, GotIs, IsPlan, entry_read, TablesOf, FilledBy, entries_fault, ParsedBy}
+use Rattle.texts.specs.declared.planning.Turn.{Turn}
+use Rattle.texts.specs.declared.entries.Entry.{Entry as Held}
+use Rattle.texts.specs.declared.parsing.Counted.{Counted}
+use Rattle.texts.proofs.ScanLaws.{picked, behind_shorter}
+use Rattle.texts.proofs.FillLaws.{mixed_more, none_left, same_left}
 
--- at a place of the text t, where a line is ended or not
-pub record Parsing (plan : List Entry) (t : List ℕ) (a r l : List ℕ) (f : Filled) (ended : Bool) (at : ℕ) : Type 0 where
+-- the rest of the text t, behind the entries read so far
+pub record Parsing (plan : List Entry) (t : List ℕ) (c : Counted) (left : Option (List Entry)) (mixed closed : Bool) (rest : List ℕ) : Type 0 where
   pub done : List Entry
   pub fuel : ℕ
-  pub form : form_from fuel ended (drop at t) ≡ form_ok t
-  pub entries : done ++ entries_from fuel (drop at t) ≡ entries_in t
-  pub enough : length t < at + fuel
-  pub within : at ≤ length t
-  pub filled : FilledBy plan done f a r l
-  pub sized : Sized a r l
+  pub form : form_from fuel closed rest ≡ form_ok t
+  pub entries : done ++ entries_from fuel rest ≡ entries_in t
+  pub enough : length rest < fuel
+  pub mixed_is : mixed ≡ some_mixed done
+  pub filled : FilledBy plan done left c
 
-pub parsing_start : (plan : List Entry) (t : List ℕ) {a r l : List ℕ} {f : Filled} → FilledBy plan [] f a r l → Sized a r l → Parsing plan t a r l f true 0
-parsing_start plan t filled sized = record {
+pub parsing_start : (plan : List Entry) (t : List ℕ) {c : Counted} → FilledBy plan [] (Some plan) c → Parsing plan t c (Some plan) false true t
+parsing_start plan t filled = record {
   done = [];
   fuel = suc (length t);
   form = refl;
   entries = refl;
   enough = omega arith;
-  within = omega arith;
+  mixed_is = refl;
   filled = filled;
-  sized = sized;
 }
 
-one_fuel : (k n at : ℕ) → n < at + k → at ≤ n → (j : ℕ) × (k ≡ suc j)
-one_fuel zero n at l m = absurd (omega arith)
-one_fuel (suc j) n at l m = (j, refl)
+one_fuel : (k n : ℕ) → n < k → (j : ℕ) × (k ≡ suc j)
+one_fuel zero n l = absurd (omega arith)
+one_fuel (suc j) n l = (j, refl)
 
-module _ {plan : List Entry} {t a r l : List ℕ} {f : Filled} {ended : Bool} {at : ℕ} (h : Parsing plan t a r l f ended at) where
-  abbrev s : List ℕ
-  s = drop at t
-
+module _ {plan : List Entry} {t : List ℕ} {c : Counted} {left : Option (List Entry)} {mixed closed : Bool} {s : List ℕ} (h : Parsing plan t c left mixed closed s) where
   -- one step of the definitions
   opened : (j : ℕ) × (h.fuel ≡ suc j)
-  opened = one_fuel h.fuel (length t) at h.enough h.within
+  opened = one_fuel h.fuel (length s) h.enough
 
-  module _ (within : at < length t) where
-    some : eqb (length s) 0 ≡ false
-    some = ne_eqb (length s) 0 (λ z. omega (arith, length-drop at t))
+  module _ (some : length s ≡ 0 → ⊥) where
+    some_left : eqb (length s) 0 ≡ false
+    some_left = ne_eqb (length s) 0 some
 
     step_form : (entry_ok s && form_from opened.0 (entry_in s).ends (behind s)) ≡ form_ok t
     step_form =
-        sym (ap (λ (k : ℕ). form_from k ended s) opened.1 ∙ ap (λ (b : Bool). pick b ended (entry_ok s && form_from opened.0 (entry_in s).ends (behind s))) some) ∙ h.form
+        sym (ap (λ (k : ℕ). form_from k closed s) opened.1 ∙ ap (λ (b : Bool). pick b closed (entry_ok s && form_from opened.0 (entry_in s).ends (behind s))) some_left) ∙ h.form
 
     step_entries : h.done ++ (entry_in s ∷ entries_from opened.0 (behind s)) ≡ entries_in t
     step_entries =
-        ap (λ (x : List Entry). h.done ++ x) (sym (ap (λ (k : ℕ). entries_from k s) opened.1 ∙ ap (λ (b : Bool). pick b [] (entry_in s ∷ entries_from opened.0 (behind s))) some)) ∙ h.entries
+        ap (λ (x : List Entry). h.done ++ x) (sym (ap (λ (k : ℕ). entries_from k s) opened.1 ∙ ap (λ (b : Bool). pick b [] (entry_in s ∷ entries_from opened.0 (behind s))) some_left)) ∙ h.entries
 
-    module _ {e : Got} (read : EntryRead s e) where
-      pub no_form : e.ok ≡ false → form_ok t ≡ false
-      no_form n = sym step_form ∙ ap (λ (b : Bool). b && form_from opened.0 (entry_in s).ends (behind s)) (sym read.ok ∙ n)
+    pub no_form : entry_read s ≡ None → form_ok t ≡ false
+    no_form n = sym step_form ∙ ap (λ (b : Bool). b && form_from opened.0 (entry_in s).ends (behind s)) (none (entry_ok s) _ n)
+      where
+        none : {A : Type 0} (b : Bool) (x : A) → pick b (Some x) None ≡ None → b ≡ false
+        none true x e = absurd (cc)
+        none false x e = refl
 
-      module _ (good : e.ok ≡ true) where
-        got : EntryGot s e
-        got = read.read good
+    module _ {e : Held} {rest : List ℕ} (read : entry_read s ≡ Some (e, rest)) where
+      ok : entry_ok s ≡ true
+      ok = (picked (entry_ok s) read).0
 
-        pub step_within : at + e.long ≤ length t
-        step_within = omega (arith, got.within, length-drop at t)
+      e-is : held (entry_in s) ≡ e
+      e-is = ap (λ (p : Held × List ℕ). p.0) (picked (entry_ok s) read).1
 
-        pub step_some : 1 ≤ e.long
-        step_some = got.some
+      pub rest_is : behind s ≡ rest
+      rest_is = ap (λ (p : Held × List ℕ). p.1) (picked (entry_ok s) read).1
 
-        rest_is : behind s ≡ drop (at + e.long) t
-        rest_is = got.rest ∙ drop-drop e.long at t
+      pub rest_shorter : length rest < length s
+      rest_shorter = subst (λ (l : List ℕ). length l < length s) rest_is (behind_shorter s ok)
 
-        pub parsing_more : {a' r' l' : List ℕ} {q : Filled} → FilledBy plan (h.done ++ (entry_in s ∷ [])) q a' r' l' → Sized a' r' l' → Parsing plan t a' r' l' q e.ends (at + e.long)
-        parsing_more filled sized = record {
-          done = h.done ++ (entry_in s ∷ []);
-          fuel = opened.0;
-          form = form_is;
-          entries = append_assoc h.done (entry_in s ∷ []) (entries_from opened.0 (drop (at + e.long) t)) ∙ ap (λ (x : List ℕ). h.done ++ (entry_in s ∷ entries_from opened.0 x)) (sym rest_is) ∙ step_entries;
-          enough = omega (arith, h.enough, opened.1, step_some);
-          within = step_within;
-          filled = filled;
-          sized = sized;
-        }
-          where
-            ends_is : e.ends ≡ (entry_in s).ends
-            ends_is = got.is.ends
+      -- what the code takes the entry for
+      pub taken : {left' : Option (List Entry)} {c' : Counted} → ((plan es : List Entry) (x : Entry) → IsPlan plan → GotIs x e → FilledBy plan es left c → FilledBy plan (es ++ (x ∷ [])) left' c') → IsPlan plan → FilledBy plan (h.done ++ (entry_in s ∷ [])) left' c'
+      taken more once = more plan h.done (entry_in s) once (sym e-is) h.filled
 
-            ok_is : entry_ok s ≡ true
-            ok_is = sym read.ok ∙ good
+      pub parsing_more : {left' : Option (List Entry)} {c' : Counted} {both mixed' : Bool} → FilledBy plan (h.done ++ (entry_in s ∷ [])) left' c' → both ≡ (ltb 0 e.right && ltb 0 e.left) → mixed' ≡ (mixed || both) → Parsing plan t c' left' mixed' e.last rest
+      parsing_more filled both-is mixed-is = record {
+        done = h.done ++ (entry_in s ∷ []);
+        fuel = opened.0;
+        form = ap (λ (b : Bool). form_from opened.0 b rest) (sym (ap (λ (x : Held). x.last) e-is))
+            ∙ ap (form_from opened.0 (entry_in s).ends) (sym rest_is)
+            ∙ sym (ap (λ (b : Bool). b && form_from opened.0 (entry_in s).ends (behind s)) ok) ∙ step_form;
+        entries = append_assoc h.done (entry_in s ∷ []) (entries_from opened.0 rest) ∙ ap (λ (x : List ℕ). h.done ++ (entry_in s ∷ entries_from opened.0 x)) (sym rest_is) ∙ step_entries;
+        enough = omega (arith, h.enough, opened.1, rest_shorter);
+        mixed_is = mixed-is ∙ (λ i. h.mixed_is i || both-is i) ∙ ap (λ (x : Held). some_mixed h.done || (ltb 0 x.right && ltb 0 x.left)) (sym e-is) ∙ sym (mixed_more h.done (entry_in s));
+        filled = filled;
+      }
 
-            form_is : form_from opened.0 e.ends (drop (at + e.long) t) ≡ form_ok t
-            form_is =
-                ap (λ (b : Bool). form_from opened.0 b (drop (at + e.long) t)) ends_is
-                ∙ ap (form_from opened.0 (entry_in s).ends) (sym rest_is)
-                ∙ sym (ap (λ (b : Bool). b && form_from opened.0 (entry_in s).ends (behind s)) ok_is) ∙ step_form
-
-        -- for every plan and entries so far
-        pub taken : {a' r' l' : List ℕ} {q : Filled} → ((es : List Entry) (x : Entry) → GotIs x e → FilledBy plan es f a r l → FilledBy plan (es ++ (x ∷ [])) q a' r' l') → FilledBy plan (h.done ++ (entry_in s ∷ [])) q a' r' l'
-        taken more = more h.done (entry_in s) got.is h.filled
-
-  module _ (over : length t ≤ at) where
+  module _ (over : length s ≡ 0) where
     nothing_left : s ≡ []
-    nothing_left = drop_of_length-le t over
+    nothing_left = go s over
+      where
+        go : (l : List ℕ) → length l ≡ 0 → l ≡ []
+        go [] e = refl
+        go (x ∷ l) e = absurd (omega arith)
 
-    end_form : form_ok t ≡ ended
-    end_form = sym h.form ∙ (λ i. form_from (opened.1 i) ended (nothing_left i))
+    end_form : form_ok t ≡ closed
+    end_form = sym h.form ∙ (λ i. form_from (opened.1 i) closed (nothing_left i))
 
     end_entries : entries_in t ≡ h.done
     end_entries = sym h.entries ∙ (λ i. h.done ++ entries_from (opened.1 i) (nothing_left i)) ∙ append-nil h.done
 
-    pub not_ended : ended ≡ false → form_ok t ≡ false
-    not_ended e = end_form ∙ e
+    end_fault : entries_fault plan t ≡ first_of (when (not closed) 30) (first_of (when mixed 31) (when (not (none_left left)) 32))
+    end_fault =
+        (λ i. first_of (when (not (end_form i)) 30) (first_of (when (some_mixed (end_entries i)) 31) (when (not (same_faces (end_entries i) plan)) 32)))
+        ∙ (λ i. first_of (when (not closed) 30) (first_of (when (sym h.mixed_is i) 31) (when (not ((same_left h.done plan ∙ ap none_left (sym h.filled.left_is)) i)) 32)))
 
-    module _ (closed : ended ≡ true) (n : ℕ) (long : length plan ≡ n) where
-      pub end_filled : FilledBy plan (entries_in t) f a r l
-      end_filled = subst (λ (es : List Entry). FilledBy plan es f a r l) (sym end_entries) h.filled
+    -- the answers
+    refused : {r : Refusal} {k : ℕ} → number_of r ≡ k → entries_fault plan t ≡ k → ParsedBy plan t (Err r)
+    refused n e = record { number = n ∙ sym e; tables = tt }
 
-      same_is : (f.fits && eqb f.count n) ≡ same_faces (entries_in t) plan
-      same_is = go f.fits refl
-        where
-          es : List Entry
-          es = entries_in t
+    pub not_closed : closed ≡ false → ParsedBy plan t (Err TextForm)
+    not_closed n = refused refl (end_fault ∙ ap (λ (b : Bool). first_of (when (not b) 30) (first_of (when mixed 31) (when (not (none_left left)) 32))) n)
 
-          go : (b : Bool) → f.fits ≡ b → (f.fits && eqb f.count n) ≡ same_faces (entries_in t) plan
-          go true q =
-              let c : f.count ≡ length (entries_in t) = end_filled.count q in
-              (λ i. end_filled.fitting i && eqb (c i) n) ∙ ap (λ (k : ℕ). fits (entries_in t) plan && eqb (length (entries_in t)) k) (sym long) ∙ sym (same_fits (entries_in t) plan)
-          go false q =
-              ap (λ (b : Bool). b && eqb f.count n) q
-              ∙ sym (same_fits (entries_in t) plan ∙ ap (λ (b : Bool). b && eqb (length (entries_in t)) (length plan)) (sym end_filled.fitting ∙ q))
+    module _ (ends : closed ≡ true) where
+      past_form : entries_fault plan t ≡ first_of (when mixed 31) (when (not (none_left left)) 32)
+      past_form = end_fault ∙ ap (λ (b : Bool). first_of (when (not b) 30) (first_of (when mixed 31) (when (not (none_left left)) 32))) ends
 
-      pub end_number : entries_number f.mixed f.fits f.count n ≡ entries_fault plan t
-      end_number =
-          (λ i. first_of (when (end_filled.mixed i) 31) (when (not (same_is i)) 32))
-          ∙ sym (ap (λ (b : Bool). first_of (when (not b) 30) (first_of (when (some_mixed (entries_in t)) 31) (when (not (same_faces (entries_in t) plan)) 32))) (end_form ∙ closed))
+      pub some_word : mixed ≡ true → ParsedBy plan t (Err MixedWord)
+      some_word m = refused refl (past_form ∙ ap (λ (b : Bool). first_of (when b 31) (when (not (none_left left)) 32)) m)
 
--- the answers
-pub form-refused : {plan : List Entry} {t : List ℕ} {r : Parsed} → form_ok t ≡ false → r.number ≡ 30 → ParsedBy plan t r
-form-refused {plan} {t} {r} no_form q = record {
-  number = q ∙ sym (ap (λ (b : Bool). first_of (when (not b) 30) (first_of (when (some_mixed (entries_in t)) 31) (when (not (same_faces (entries_in t) plan)) 32))) no_form);
-  tables = λ z. absurd (omega (arith, q));
-}
+      module _ (unmixed : mixed ≡ false) where
+        past_words : entries_fault plan t ≡ when (not (none_left left)) 32
+        past_words = past_form ∙ ap (λ (b : Bool). first_of (when b 31) (when (not (none_left left)) 32)) unmixed
 
-number_fits : (mixed fitting : Bool) (count n : ℕ) → entries_number mixed fitting count n ≡ 0 → fitting ≡ true
-number_fits true fitting count n e = absurd (omega arith)
-number_fits false true count n e = refl
-number_fits false false count n e = absurd (omega arith)
+        other_faces : none_left left ≡ false → ParsedBy plan t (Err TextFaces)
+        other_faces n = refused refl (past_words ∙ ap (λ (b : Bool). when (not b) 32) n)
 
-pub all_read : {plan : List Entry} {t a r l : List ℕ} {f : Filled} {number : ℕ} (n : ℕ) → FilledBy plan (entries_in t) f a r l → entries_number f.mixed f.fits f.count n ≡ entries_fault plan t
-    → number ≡ entries_number f.mixed f.fits f.count n → ParsedBy plan t (record { number = number; angles = a; rights = r; lefts = l })
-all_read {plan} {t} {a} {r} {l} {f} {number} n filled fault number_is = record {
-  number = number_is ∙ fault;
-  tables = λ z. filled.tables (number_fits f.mixed f.fits f.count n (sym number_is ∙ z));
+        pub not_first : left ≡ None → ParsedBy plan t (Err TextFaces)
+        not_first n = other_faces (ap none_left n)
+
+        pub some_unread : (ts : List Turn) → (length ts ≡ 0 → ⊥) → left ≡ Some (laid ts) → ParsedBy plan t (Err TextFaces)
+        some_unread [] l n = absurd (l refl)
+        some_unread (u ∷ ts) l n = other_faces (ap none_left n)
+
+        pub all_read : (ts : List Turn) → length ts ≡ 0 → left ≡ Some (laid ts) → ParsedBy plan t (Ok c)
+        all_read (u ∷ ts) l n = absurd (omega arith)
+        all_read [] l n = record {
+          number = sym (past_words ∙ ap (λ (l : Option (List Entry)). when (not (none_left l)) 32) n);
+          tables = subst (λ (es : List Entry). TablesOf es c) (sym end_entries) (h.filled.tables [] n);
+        }
+
+-- a text that is not of the form
+pub form-refused : {plan : List Entry} {t : List ℕ} → form_ok t ≡ false → ParsedBy plan t (Err TextForm)
+form-refused {plan} {t} n = record {
+  number = sym (ap (λ (b : Bool). first_of (when (not b) 30) (first_of (when (some_mixed (entries_in t)) 31) (when (not (same_faces (entries_in t) plan)) 32))) n);
+  tables = tt;
 }

@@ -2,17 +2,18 @@
 use mathlib.Core.Path.{◌≡◌, refl, sym, ap, subst, ◌∙◌}
 use mathlib.Core.Bool.{Bool, true, false}
 use mathlib.Core.List.{List, [], ◌∷◌, ◌++◌, append_assoc, append-nil}
-use Prim.Native.Nat.{ℕ, zero, suc, ◌+◌, ◌-◌, ◌/◌, ◌≤◌, ◌<◌, min}
+use Prim.Native.Nat.{ℕ, zero, suc, ◌+◌, ◌*◌, ◌/◌, ◌^◌, ◌≤◌, ◌<◌, min, max}
 use native.Mathlib.Decide.{ℕ_discrete}
-use native.Mathlib.Nat.{add-zero}
 use native.Mathlib.Numerals.{add-one}
+use Rattle.std.proofs.Math.Nat.{pow-succ'}
 use native.Mathlib.Omega.{arith}
-use lib.ListN.{length, get_or, set, replicate, length-append, length-replicate, length-set, replicate-append-replicate}
-use mathlib.Core.Logic.{⊎_elim}
-use Rattle.finite.proofs.Tests.{equal_or_not}
-use Rattle.finite.proofs.Members.{in_here, in_left, in_right}
+use lib.ListN.{length, get_or, set, take, drop, replicate, length-append, length-replicate, length-set, take-append-drop}
+use lib.Seq.{take-suc, take_all, drop-drop}
+use borrow.Rule.Slice.PartMut.{put_mid}
+use Rattle.std.specs.Prelude.{Option, Some, None, IfNone, IfSome, unwrap_or}
+use Rattle.finite.proofs.Members.{in_here, in_more}
 use Rattle.finite.proofs.Sums.{sum_below, sum_over, sum_last}
-use Rattle.fields.specs.Writing.{put_at, Written}
+use Rattle.fields.specs.Writing.{Written}
 use Rattle.fields.proofs.Puts.{written_none, written_then}
 use Rattle.embedding.proofs.Rotation.{twin_below}
 use Rattle.plates.specs.Plates.{is_in, twin}
@@ -22,17 +23,28 @@ use Rattle.plates.proofs.ListingText.{decimal_one_long, decimal_more_long, byte_
 use Rattle.plates.specs.Text.{Entry, entry, bend_digits, word_text, angle_text, entry_text, text_of}
 use Rattle.plates.specs.Lines.{darts_of}
 use Rattle.texts.specs.Plan.{laid}
-use Rattle.texts.specs.Prints.{count_word, count_entries, entry_long, long_up_to, EntryRoom, PrintRoom}
-use Rattle.texts.proofs.Around.{darts_append}
+use Rattle.texts.specs.Prints.{count_word, count_entries, entry_of, entry_long, long_up_to, EntryRoom, PrintRoom}
+use Rattle.texts.specs.declared.planning.Turn.{Turn}
+use Rattle.texts.specs.declared.entries.Entry.{Entry as Held}
+use Rattle.texts.proofs.LaidLaws.{laid_append}
 use Rattle.texts.proofs.TextBack.{angle_in}
 use Rattle.texts.proofs.OneWay.{one_way}
 
--- digits of numbers below 1000
-pub two_long : (n : ℕ) → 10 ≤ n → n < 100 → length (decimal n) ≡ 2
-two_long n l k = omega (arith, decimal_more_long n l, decimal_one_long (n / 10) (omega arith))
+-- how many digits a number has, by powers of ten
+digits_from : (k n : ℕ) → 10 ^ k ≤ n → n < 10 * 10 ^ k → length (decimal n) ≡ k + 1
+digits_from zero n l h = decimal_one_long n (omega arith)
+digits_from (suc k) n l h =
+    let ten : 10 ^ suc k ≡ 10 * 10 ^ k = pow-succ' 10 k in
+    let some : 1 ≤ 10 ^ k = power_some k in
+    omega (arith, decimal_more_long n (omega (arith, ten)), digits_from k (n / 10) (omega (arith, ten)) (omega (arith, ten)))
+  where
+    power_some : (k : ℕ) → 1 ≤ 10 ^ k
+    power_some zero = omega arith
+    power_some (suc k) = let e : 10 ^ suc k ≡ 10 * 10 ^ k = pow-succ' 10 k in omega (arith, e, power_some k)
 
-pub three_long : (n : ℕ) → 100 ≤ n → n < 1000 → length (decimal n) ≡ 3
-three_long n l k = omega (arith, decimal_more_long n (omega arith), two_long (n / 10) (omega arith) (omega arith))
+pub digits_counted : (n : ℕ) (r : Option ℕ) {k : ℕ} → IfNone r (n ≡ 0) → IfSome r (λ j. 10 ^ j ≤ n) → IfSome r (λ j. n < 10 * 10 ^ j) → k ≡ unwrap_or r 0 → k + 1 ≡ length (decimal n)
+digits_counted n None none low high e = omega (arith, e, decimal_one_long n (omega (arith, none)))
+digits_counted n (Some j) none low high e = omega (arith, e, digits_from j n low high)
 
 -- words of one digit
 false_digits : (l : ℕ) → bend_digits (some_false l) ≡ replicate l 49
@@ -75,25 +87,29 @@ left_word r l e n = some_digits r l (λ z. n (omega arith)) ∙ ap (λ (k : ℕ)
 pub rewritten : {at n : ℕ} {out out' : List ℕ} (xs ys : List ℕ) → xs ≡ ys → Written at xs out out' n → Written at ys out out' n
 rewritten {at} {n} {out} {out'} xs ys e w = subst (λ (z : List ℕ). Written at z out out' n) e w
 
--- a run of one byte
-pub run_more : (at i b : ℕ) {out mid : List ℕ} → at ≤ length out → at + i < length mid → Written at (replicate i b) out mid (at + i) → Written at (replicate (i + 1) b) out (set mid (at + i) b) (at + (i + 1))
-run_more at i b {out} {mid} l k w =
-    let q : at + i + 1 ≡ at + (i + 1) = omega arith in
-    subst (λ (m : ℕ). Written at (replicate (i + 1) b) out (set mid (at + i) b) m) q
-    (rewritten (replicate i b ++ (b ∷ [])) (replicate (i + 1) b) (replicate-append-replicate i 1 b) (written_then l w (byte_written b (at + i) mid k)))
+-- how long a word is
+pub word_counted : (r l : ℕ) {n : ℕ} → n ≡ max (r + l) 1 → n ≡ length (word_text (even_word r l))
+word_counted r l {n} e = go (ℕ_discrete (r + l) 0)
+  where
+    go : Dec (r + l ≡ 0) → n ≡ length (word_text (even_word r l))
+    go (yes z) = omega (arith, e, no_word_long r l (r + l) refl z)
+    go (no z) = omega (arith, e, some_word_long r l (r + l) refl z)
 
-pub run_none : (at b : ℕ) (out : List ℕ) → Written at (replicate 0 b) out out (at + 0)
-run_none at b out = subst (λ (m : ℕ). Written at [] out out m) (sym (add-zero at)) (written_none at out)
+-- bytes put into a part of a slice
+pub part_written : {at k next : ℕ} {xs ys out : List ℕ} → ys ≡ xs → k ≡ length xs → next ≡ at + length xs → Written at xs out (put_mid at k out ys) next
+part_written {at} {k} {next} {xs} {ys} {out} e l n = record {
+  bytes = ap (λ (zs : List ℕ). put_mid at k out zs) e ∙ ap (λ (r : List ℕ). take at out ++ (xs ++ r)) (drop-drop k at out ∙ ap (λ (m : ℕ). drop m out) (ap (λ (m : ℕ). at + m) l));
+  behind = n;
+}
 
 -- an entry in its parts
-pub entry_parts : (d right left angle : ℕ) (b : Bool) {at m n : ℕ} {out o1 o2 o3 : List ℕ} {tail : List ℕ} → at ≤ length out → m < length o1 → m + 1 ≤ length o1
-    → Written at (decimal d) out o1 m → Written (m + 1) (word_text (even_word right left)) (set o1 m 32) o2 n → n ≤ length o2 → tail ≡ angle_text angle b → o3 ≡ put_at n tail o2
+pub entry_parts : (d right left angle : ℕ) (b : Bool) {at m n : ℕ} {out o1 o2 o3 : List ℕ} → at ≤ length out → m < length o1 → m + 1 ≤ length o1
+    → Written at (decimal d) out o1 m → Written (m + 1) (word_text (even_word right left)) (set o1 m 32) o2 n → n ≤ length o2 → Written n (angle_text angle b) o2 o3 (n + 3)
     → Written at (entry_text (entry d (even_word right left) angle b)) out o3 (n + 3)
-entry_parts d right left angle b {at} {m} {n} {out} {o1} {o2} {o3} {tail} l k j w1 w2 h te e =
+entry_parts d right left angle b {at} {m} {n} {out} {o1} {o2} {o3} l k j w1 w2 h w3 =
     written_then l w1
     (written_then (omega arith) (byte_written 32 m o1 k)
-    (written_then (omega (arith, length-set o1 m 32)) w2
-    (record { bytes = e ∙ ap (λ (t : List ℕ). put_at n t o2) te; behind = refl })))
+    (written_then (omega (arith, length-set o1 m 32)) w2 w3))
 
 pub entry_size : (d right left angle : ℕ) (b : Bool) → length (entry_text (entry d (even_word right left) angle b)) ≡ length (decimal d) + (length (word_text (even_word right left)) + 4)
 entry_size d right left angle b =
@@ -112,78 +128,81 @@ count_append : (a r : List ℕ) (xs ys : List Entry) → count_entries a r (xs +
 count_append a r [] ys = refl
 count_append a r (x ∷ xs) ys = ap (λ (l : List Entry). entry x.dart (count_word r x.dart) (get_or a x.dart 0) x.ends ∷ l) (count_append a r xs ys)
 
-module _ (a r o : List ℕ) (e : List Bool) where
-  abbrev up_to : ℕ → List ℕ
-  up_to n = text_of (count_entries a r (laid n o e))
+abbrev none_turn : Turn
+none_turn = record { dart = 0; last = false }
 
-  abbrev entry_at : ℕ → List ℕ
-  entry_at i = entry_text (entry (get_or o i 0) (count_word r (get_or o i 0)) (get_or a (get_or o i 0) 0) (get_or e i false))
+module _ (a r : List ℕ) where
+  abbrev text : List Turn → List ℕ
+  text ts = text_of (count_entries a r (laid ts))
 
-  pub one_more : (i : ℕ) → up_to (suc i) ≡ up_to i ++ entry_at i
-  one_more i =
-      ap text_of (count_append a r (laid i o e) (entry (get_or o i 0) [] 0 (get_or e i false) ∷ []))
-      ∙ text_append (count_entries a r (laid i o e)) (entry (get_or o i 0) (count_word r (get_or o i 0)) (get_or a (get_or o i 0) 0) (get_or e i false) ∷ [])
-      ∙ ap (λ (l : List ℕ). up_to i ++ l) (append-nil (entry_at i))
+  abbrev turn_text : Turn → List ℕ
+  turn_text t = entry_text (entry t.dart (count_word r t.dart) (get_or a t.dart 0) t.last)
 
-  part_of_lem : (n m : ℕ) → length (up_to n) ≤ length (up_to (n + m))
-  part_of_lem n zero = omega (arith, ap (λ (k : ℕ). length (up_to k)) (add-zero n))
-  part_of_lem n (suc m) =
-      let q : n + suc m ≡ suc (n + m) = omega arith in
-      omega (arith, part_of_lem n m, ap (λ (k : ℕ). length (up_to k)) q, ap length (one_more (n + m)), length-append (up_to (n + m)) (entry_at (n + m)))
+  text_parts : (xs ys : List Turn) → text (xs ++ ys) ≡ text xs ++ text ys
+  text_parts xs ys = ap (λ (l : List Entry). text_of (count_entries a r l)) (laid_append xs ys) ∙ ap text_of (count_append a r (laid xs) (laid ys)) ∙ text_append (count_entries a r (laid xs)) (count_entries a r (laid ys))
 
-  room_for : (i n : ℕ) → i < n → length (up_to i) + length (entry_at i) ≤ length (up_to n)
-  room_for i n l =
-      let m = n - suc i in
-      let q : suc i + m ≡ n = omega arith in
-      omega (arith, part_of_lem (suc i) m, ap (λ (k : ℕ). length (up_to k)) q, ap length (one_more i), length-append (up_to i) (entry_at i))
+  module _ (ts : List Turn) (i : ℕ) (l : i < length ts) where
+    abbrev t : Turn
+    t = get_or ts i none_turn
 
--- the entries of the first i places are written
-pub record Printing (a r o : List ℕ) (e : List Bool) (out₀ out : List ℕ) (at i : ℕ) : Type 0 where
-  pub written : Written 0 (text_of (count_entries a r (laid i o e))) out₀ out at
-  pub below : i ≤ length r
+    pub one_more : text (take (i + 1) ts) ≡ text (take i ts) ++ turn_text t
+    one_more =
+        ap (λ (k : ℕ). text (take k ts)) (add-one i)
+        ∙ ap text (take-suc ts i none_turn l)
+        ∙ text_parts (take i ts) (t ∷ [])
+        ∙ ap (λ (x : List ℕ). text (take i ts) ++ x) (append-nil (turn_text t))
+
+    pub room_for : length (text (take i ts)) + length (turn_text t) ≤ length (text ts)
+    room_for =
+        omega (
+          arith,
+          ap (λ (x : List Turn). length (text x)) (sym (take-append-drop (i + 1) ts)),
+          ap length (text_parts (take (i + 1) ts) (drop (i + 1) ts)),
+          length-append (text (take (i + 1) ts)) (text (drop (i + 1) ts)),
+          ap length one_more,
+          length-append (text (take i ts)) (turn_text t),
+        )
+
+-- the entries of the first i turns are written
+pub record Printing (a r : List ℕ) (ts : List Turn) (out₀ out : List ℕ) (at i : ℕ) : Type 0 where
+  pub written : Written 0 (text_of (count_entries a r (laid (take i ts)))) out₀ out at
   pub same_long : length out ≡ length out₀
 
-pub printing_none : (a r o : List ℕ) (e : List Bool) (out : List ℕ) → Printing a r o e out out 0 0
-printing_none a r o e out = record { written = written_none 0 out; below = omega arith; same_long = refl }
+pub printing_none : (a r : List ℕ) (ts : List Turn) (out : List ℕ) → Printing a r ts out out 0 0
+printing_none a r ts out = record { written = written_none 0 out; same_long = refl }
 
-module _ {a r o : List ℕ} {e : List Bool} {out₀ out : List ℕ} {at i : ℕ} (room : PrintRoom o e a r (length out₀)) (done : Printing a r o e out₀ out at i) (l : i < length r) where
-  abbrev d : ℕ
-  d = get_or o i 0
+module _ {a r : List ℕ} {ts : List Turn} {out₀ out : List ℕ} {at i : ℕ} (room : PrintRoom ts a r (length out₀)) (done : Printing a r ts out₀ out at i) (l : i < length ts) where
+  abbrev turn : Turn
+  turn = get_or ts i none_turn
 
-  pub d_below : d < length r
-  d_below = room.below i l
+  pub d_below : turn.dart < length r
+  d_below = room.below i none_turn l
 
-  pub d_byte : d < 256
-  d_byte = omega (arith, d_below, room.straight.most)
+  pub twin_below_r : twin turn.dart < length r
+  twin_below_r = twin_below (length r) turn.dart room.straight.even d_below
 
-  pub twin_below_r : twin d < length r
-  twin_below_r = twin_below (length r) d room.straight.even d_below
-
-  pub i_byte : i < 256
-  i_byte = omega (arith, room.straight.most)
-
-  pub d_angle : d < length a
+  pub d_angle : turn.dart < length a
   d_angle = omega (arith, d_below, room.straight.same_long)
 
-  pub entry_room : EntryRoom d (get_or r d 0) (get_or r (twin d) 0) (get_or a d 0) (get_or e i false) at (length out)
+  -- the entry of turn i, as the code holds it
+  abbrev turn_entry : Held
+  turn_entry = record { dart = turn.dart; right = get_or r turn.dart 0; left = get_or r (twin turn.dart) 0; angle = get_or a turn.dart 0; last = turn.last }
+
+  pub entry_room : EntryRoom turn_entry at (length out)
   entry_room = record {
-    one_way = one_way r room.straight.even room.straight.one_way d d_below;
-    angle_most = (angle_in a room.straight.angles-ok d d_angle).1;
-    enough = omega (arith, done.written.behind, done.same_long, room.enough, room_for a r o e i (length r) l);
+    one_way = one_way r room.straight.even room.straight.one_way turn.dart d_below;
+    angle_most = (angle_in a room.straight.angles-ok turn.dart d_angle).1;
+    enough = omega (arith, done.written.behind, done.same_long, room.enough, room_for a r ts i l);
   }
 
-  pub printing_more : {out' : List ℕ} {at' : ℕ} → Written at (entry_at a r o e i) out out' at' → length out' ≡ length out → Printing a r o e out₀ out' at' (i + 1)
+  pub printing_more : {out' : List ℕ} {at' : ℕ} → Written at (entry_text (entry_of turn_entry)) out out' at' → length out' ≡ length out → Printing a r ts out₀ out' at' (i + 1)
   printing_more {out'} {at'} w k = record {
-    written = subst (λ (n : ℕ). Written 0 (up_to a r o e n) out₀ out' at') (sym (add-one i))
-        (rewritten (up_to a r o e i ++ entry_at a r o e i) (up_to a r o e (suc i)) (sym (one_more a r o e i)) (written_then (omega arith) done.written w));
-    below = omega arith;
+    written = rewritten (text a r (take i ts) ++ turn_text a r turn) (text a r (take (i + 1) ts)) (sym (one_more a r ts i l)) (written_then (omega arith) done.written w);
     same_long = k ∙ done.same_long;
   }
 
-pub printing_all : {a r o : List ℕ} {e : List Bool} {out₀ out : List ℕ} {at i : ℕ} → Printing a r o e out₀ out at i → length r ≤ i → Written 0 (text_of (count_entries a r (laid (length r) o e))) out₀ out at
-printing_all {a} {r} {o} {e} {out₀} {out} {at} {i} done l =
-    let q : i ≡ length r = omega (arith, done.below) in
-    subst (λ (n : ℕ). Written 0 (text_of (count_entries a r (laid n o e))) out₀ out at) q done.written
+pub printing_all : {a r : List ℕ} {ts : List Turn} {out₀ out : List ℕ} {at i : ℕ} → Printing a r ts out₀ out at i → length ts ≤ i → Written 0 (text_of (count_entries a r (laid ts))) out₀ out at
+printing_all {a} {r} {ts} {out₀} {out} {at} {i} done l = subst (λ (x : List Turn). Written 0 (text_of (count_entries a r (laid x))) out₀ out at) (take_all i ts l) done.written
 
 -- lengths
 pub long_more : (d : ℕ) (r : List ℕ) → long_up_to (d + 1) r ≡ long_up_to d r + entry_long r d
@@ -203,27 +222,11 @@ count_sum a r (x ∷ xs) =
       entry_size x.dart (get_or r x.dart 0) (get_or r (twin x.dart) 0) (get_or a x.dart 0) x.ends,
     )
 
-pub long_done : (r : List ℕ) (d sum : ℕ) → d ≤ length r → length r ≤ d → sum ≡ long_up_to d r → sum ≡ long_up_to (length r) r
-long_done r d sum l k e = let q : d ≡ length r = omega arith in e ∙ ap (λ (n : ℕ). long_up_to n r) q
-
-pub run_done : (at i n b : ℕ) {out out' : List ℕ} → i ≤ n → n ≤ i → Written at (replicate i b) out out' (at + i) → Written at (replicate n b) out out' (at + n)
-run_done at i n b {out} {out'} l k w = let q : i ≡ n = omega arith in subst (λ (j : ℕ). Written at (replicate j b) out out' (at + j)) q w
-
--- a run of as many digits as a word has
-pub word_run : {at w n : ℕ} {out out' : List ℕ} (b k : ℕ) (xs : List ℕ) → w ≡ k → xs ≡ replicate k b → Written at (replicate w b) out out' n → Written at xs out out' n
-word_run {at} {w} {n} {out} {out'} b k xs e q h = rewritten (replicate k b) xs (sym q) (subst (λ (j : ℕ). Written at (replicate j b) out out' n) e h)
-
-pub run_room : (at : ℕ) {room w : ℕ} (k b : ℕ) (xs : List ℕ) → w ≡ k → xs ≡ replicate k b → at + length xs ≤ room → at + w ≤ room
-run_room at k b xs e q l = omega (arith, ap length q, length-replicate {A = ℕ} k b)
-
 -- the darts that are laid
-pub laid_dart : (n : ℕ) (o : List ℕ) (e : List Bool) (i : ℕ) → i < n → is_in (get_or o i 0) (darts_of (laid n o e)) ≡ true
-laid_dart zero o e i l = absurd (omega arith)
-laid_dart (suc n) o e i l =
-    ap (is_in (get_or o i 0)) (darts_append (laid n o e) (entry (get_or o n 0) [] 0 (get_or e n false) ∷ []))
-    ∙ ⊎_elim (λ q. in_right (get_or o i 0) (darts_of (laid n o e)) (get_or o n 0 ∷ []) (subst (λ (j : ℕ). is_in (get_or o i 0) (get_or o j 0 ∷ []) ≡ true) q (in_here (get_or o i 0) [])))
-    (λ q. in_left (get_or o i 0) (darts_of (laid n o e)) (get_or o n 0 ∷ []) (laid_dart n o e i (omega arith)))
-    (equal_or_not i n)
+pub laid_dart : (ts : List Turn) (i : ℕ) (t : Turn) → i < length ts → is_in (get_or ts i t).dart (darts_of (laid ts)) ≡ true
+laid_dart [] i t l = absurd (omega arith)
+laid_dart (u ∷ ts) zero t l = in_here u.dart (darts_of (laid ts))
+laid_dart (u ∷ ts) (suc i) t l = in_more (get_or ts i t).dart u.dart (darts_of (laid ts)) (laid_dart ts i t (omega arith))
 
 pub word_most : (r l : ℕ) → r + l ≤ 255 → length (word_text (even_word r l)) ≤ 255
 word_most r l h = go (ℕ_discrete (r + l) 0)

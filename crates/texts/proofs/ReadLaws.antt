@@ -16,7 +16,7 @@ use Rattle.shapes.specs.Judge.{judgement}
 use Rattle.shapes.proofs.Accepted.{faultless, ordered}
 use Rattle.shapes.proofs.Words.{rights_at, rights_long}
 use Rattle.plates.specs.declared.Shaped.{Shaped}
-use Rattle.plates.specs.Plates.{Plate, pick_t, first_of, when, is_in, distinct, darts, faces}
+use Rattle.plates.specs.Plates.{Plate, pick_t, first_of, when, distinct, darts, faces}
 use Rattle.plates.specs.Shapes.{Shape, rights, rights_of, total, posts_ok, faces_ok, twins_ok_from, pair_sums, all_within, shape_of}
 use Rattle.plates.specs.Files.{list_fault, plate_of, limits_of}
 use Rattle.plates.specs.Says.{over, file_long}
@@ -24,21 +24,23 @@ use Rattle.plates.specs.Read.{Walked}
 use Rattle.plates.specs.Encodes.{FileGiven, FileSays, refused_shape}
 use Rattle.plates.specs.Text.{Entry, all_formed}
 use Rattle.plates.specs.Grammar.{form_ok, entries_in}
-use Rattle.plates.specs.Lines.{face_entries, sequence, same_faces, some_mixed, word_of, words_by, angles_by, darts_of}
+use Rattle.plates.specs.Lines.{face_entries, same_faces, some_mixed, word_of, words_by, angles_by, darts_of}
 use Rattle.plates.specs.Texts.{words_read, placed_fault, text_fault, bytes_read, read_fault, ReadWith, ReadSays}
 use Rattle.texts.specs.Plan.{laid, PlanHeld}
-use Rattle.texts.specs.Parses.{Tables, PlanArrays, entries_fault, twin_counts, ParsedBy}
+use Rattle.std.specs.Prelude.{Result}
+use Rattle.refusals.specs.Numbers.{fault_of}
+use Rattle.refusals.specs.declared.Refusal.{Refusal}
+use Rattle.texts.specs.Parses.{Tables, IsPlan, entries_fault, twin_counts, ParsedBy}
 use Rattle.texts.specs.Reads.{counted_fault}
-use Rattle.texts.specs.declared.planning.Laid.{Laid}
-use Rattle.texts.specs.declared.parsing.Parsed.{Parsed}
+use Rattle.texts.specs.declared.planning.Turn.{Turn}
+use Rattle.texts.specs.declared.parsing.Counted.{Counted}
 use Rattle.texts.proofs.Grammar.{exact}
 use Rattle.texts.proofs.Refill.{word_fits, angles_long, words_long, angle_at, word_at_lem}
-use Rattle.texts.proofs.Around.{around, plan_darts, all-distinct, all-below}
+use Rattle.texts.proofs.Around.{plan_darts, all-distinct}
 use Rattle.texts.proofs.OneWay.{word-long}
 use Rattle.texts.proofs.Placed.{Told}
 use Rattle.texts.proofs.TextBack.{outer_below}
 use Rattle.texts.proofs.BackText.{angles_fine, words_counted}
-use Rattle.texts.proofs.PrintLaws.{laid_dart}
 use Rattle.texts.proofs.TwinLaws.{twins_by_counts}
 
 -- the refusals of entries, then the rest
@@ -168,26 +170,12 @@ module _ (p : Plate) (ls : List ℕ) (n : ℕ) (a₀ r₀ l₀ : List ℕ) {w : 
       no_counted_fault f = sym (by_limits ∙ ap (λ (b : Bool). when (not b) 25) f)
 
 -- a plan that is held
-module _ (p : Plate) (acc : Accepted p) {n : ℕ} (n-is : n ≡ darts p) {q : Laid} (held : PlanHeld p q) where
-  held_plan : laid n q.order q.ends ≡ face_entries p [] []
-  held_plan = ap (λ (k : ℕ). laid k q.order q.ends) n-is ∙ held.entries
+module _ (p : Plate) (acc : Accepted p) (q : List Turn) (held : PlanHeld p q) where
+  pub plan_once : IsPlan (laid q)
+  plan_once = ap (λ (x : List Entry). distinct (darts_of x)) held ∙ ap distinct (plan_darts p) ∙ all-distinct p (ordered p acc) (outer_below p acc)
 
-  darts_are : darts_of (laid n q.order q.ends) ≡ around p (sequence p)
-  darts_are = ap darts_of held_plan ∙ plan_darts p
-
-  pub plan_arrays : PlanArrays n q.order q.ends
-  plan_arrays =
-      let most = darts_few p (faultless p acc) (ordered p acc) in
-      record {
-        few = omega arith;
-        order_long = held.order_long;
-        ends_long = held.ends_long;
-        below = λ i l. omega (arith, all-below p (ordered p acc) (outer_below p acc) (get_or q.order i 0) (sym (ap (is_in (get_or q.order i 0)) darts_are) ∙ laid_dart n q.order q.ends i l));
-        once = ap distinct darts_are ∙ all-distinct p (ordered p acc) (outer_below p acc);
-      }
-
-  pub fault-of : {t : List ℕ} {r : Parsed} → ParsedBy (laid n q.order q.ends) t r → r.number ≡ entries_fault (face_entries p [] []) t
-  fault-of {t} {r} h = h.number ∙ ap (λ (x : List Entry). entries_fault x t) held_plan
+  pub fault-of : {t : List ℕ} {r : Result Counted Refusal} → ParsedBy (laid q) t r → fault_of r ≡ entries_fault (face_entries p [] []) t
+  fault-of {t} {r} h = h.number ∙ ap (λ (x : List Entry). entries_fault x t) held
 
 -- right bends that each fit a byte
 total_most : (xs : List ℕ) → ((i : ℕ) → i < length xs → get_or xs i 0 ≤ 255) → total xs ≤ 255 * length xs

@@ -1,14 +1,13 @@
 -- What writing a text promises, from what its steps give: the list's refusal, the file's, the counts', 31, 16, or the text. Assumes nothing.
 use mathlib.Core.Path.{◌≡◌, refl, sym, ap, subst, subst₂, ◌∙◌}
-use mathlib.Core.Bool.{Bool, true, false, ◌&&◌, ◌||◌, not}
-use mathlib.Core.List.{List, [], ◌∷◌}
-use Prim.Native.Nat.{ℕ, zero, suc, ◌+◌, ◌%◌, ◌≤◌, ◌<◌}
+use mathlib.Core.Bool.{Bool, true, false, not}
+use mathlib.Core.List.{List}
+use Prim.Native.Nat.{ℕ, zero, suc, ◌%◌}
 use native.Mathlib.Omega.{arith}
 use lib.Dec.{ltb}
-use lib.ListN.{length, get_or, drop, length-drop}
+use lib.ListN.{length}
 use borrow.Author.Tests.{not-false}
 use Rattle.finite.proofs.Tests.{first_none, when_none, first_some}
-use Rattle.embedding.proofs.Fronts.{two_front}
 use Rattle.fields.specs.declared.Fields.{Fields}
 use Rattle.embedding.specs.declared.Plate.{Plate as Held}
 use Rattle.shapes.specs.Judge.{judgement}
@@ -72,28 +71,6 @@ module _ (s t o : List ℕ) where
             → WriteSays s t o o' r
         go true e h = subst (λ (k : ℕ). WriteWith k s t o o' r) (sym (fault_is ∙ ap (λ (b : Bool). when b 16) e)) h
         go false e h = subst (λ (k : ℕ). WriteWith k s t o o' r) (sym (fault_is ∙ ap (λ (b : Bool). when b 16) e)) h
-
--- a scan for a strip that bends both ways
-module _ (s : List ℕ) (i : ℕ) (so_far : both_ways (drop i s) ≡ both_ways s) where
-  abbrev here : Bool
-  here = ltb 0 (get_or s i 0) && ltb 0 (get_or s (i + 1) 0)
-
-  at_front : i + 1 < length s → (here || both_ways (drop (i + 2) s)) ≡ both_ways s
-  at_front l = ap both_ways (sym (two_front s i l)) ∙ so_far
-
-  pub ways_hit : (b : Bool) → b ≡ here → i + 1 < length s → b ≡ true → true ≡ both_ways s
-  ways_hit b e l h = sym (ap (λ (x : Bool). x || both_ways (drop (i + 2) s)) (sym e ∙ h)) ∙ at_front l
-
-  pub ways_miss : (b : Bool) → b ≡ here → i + 1 < length s → b ≡ false → both_ways (drop (i + 2) s) ≡ both_ways s
-  ways_miss b e l h = sym (ap (λ (x : Bool). x || both_ways (drop (i + 2) s)) (sym e ∙ h)) ∙ at_front l
-
-  pub ways_end : length s ≤ i + 1 → false ≡ both_ways s
-  ways_end l = go (drop i s) refl (omega (arith, length-drop i s))
-    where
-      go : (x : List ℕ) → x ≡ drop i s → length (drop i s) ≤ 1 → false ≡ both_ways s
-      go [] e k = ap both_ways e ∙ so_far
-      go (y ∷ []) e k = ap both_ways e ∙ so_far
-      go (y ∷ (z ∷ x)) e k = absurd (omega (arith, ap length e))
 
 -- the counts of a sound shape file: 31, or its text
 module _ {s : List ℕ} {f : Fields} {h : Held} {t : List ℕ} {g : Fields} (readable : Readable s f h t g) {r : List ℕ} (rights : r ≡ rights_in t)

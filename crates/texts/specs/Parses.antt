@@ -1,57 +1,61 @@
 -- What the steps of reading a text give.
-use Rattle.std.specs.Prelude.{◌≡◌, Bool, true, false, ◌&&◌, not, List, [], ◌∷◌, ℕ, zero, suc, ◌≤◌, ◌<◌, min, eqb, length, get_or, take, drop}
+use Rattle.std.specs.Prelude.{◌≡◌, Bool, true, ◌&&◌, not, List, [], ◌∷◌, ℕ, zero, suc, ◌-◌, min, eqb, get_or, take, drop, Option, Some, None, Result, IfOk}
+use Rattle.std.specs.Option.{option_map}
+use denote.Ref.{Bor}
 use Rattle.finite.specs.Tables.{Table}
-use Rattle.plates.specs.Plates.{first_of, when, distinct, twin}
+use Rattle.refusals.specs.Numbers.{fault_of}
+use Rattle.refusals.specs.declared.Refusal.{Refusal}
+use Rattle.plates.specs.Plates.{pick, first_of, when, distinct, twin}
 use Rattle.plates.specs.Shapes.{rights, lefts, same_b}
 use Rattle.plates.specs.Listing.{number_of}
 use Rattle.plates.specs.Text.{Entry}
-use Rattle.plates.specs.Grammar.{number_long, number_ok, word_long, word_ok, word_in, entry_ok, entry_in, behind, form_ok, entries_in}
+use Rattle.plates.specs.Grammar.{number_long, number_ok, word_long, word_ok, word_in, angle_ok, from_word, entry_ok, entry_in, behind, form_ok, entries_in}
 use Rattle.plates.specs.Lines.{some_mixed, same_faces, word_of, angle_of, darts_of}
 use Rattle.texts.specs.Plan.{laid}
-use Rattle.texts.specs.declared.scanning.Number.{Number}
-use Rattle.texts.specs.declared.scanning.Word.{Word}
-use Rattle.texts.specs.declared.scanning.Got.{Got}
-use Rattle.texts.specs.declared.parsing.Filled.{Filled}
-use Rattle.texts.specs.declared.parsing.Parsed.{Parsed}
+use Rattle.texts.specs.declared.planning.Turn.{Turn}
+use Rattle.texts.specs.declared.entries.Entry.{Entry as Held}
+use Rattle.texts.specs.declared.parsing.Counted.{Counted}
 
 -- a number, told exactly below 1000: no plate has a dart above 255
 abbrev pub capped : ℕ → ℕ
 capped n = min n 1000
 
-pub record NumberRead (s : List ℕ) (r : Number) : Type 0 where
-  pub ok : r.ok ≡ number_ok s
-  pub value : r.value ≡ capped (number_of 0 (take (number_long s) s))
-  pub long : r.long ≡ suc (number_long s)
+-- what a reader gives, seen by view: nothing, or a value and the rest of the text
+abbrev pub Gives : {X Y : Type 0} → (X → Y) → Option X → Option Y → Type 0
+Gives view None read = read ≡ None
+Gives view (Some x) read = read ≡ Some (view x)
 
-pub record WordRead (s : List ℕ) (r : Word) : Type 0 where
-  pub ok : r.ok ≡ word_ok s
-  pub right : r.right ≡ rights (word_in s)
-  pub left : r.left ≡ lefts (word_in s)
-  pub long : r.long ≡ suc (word_long s)
+abbrev pub space_read : List ℕ → Option (List ℕ)
+space_read s = pick (eqb (get_or s 0 0) 32) (Some (drop 1 s)) None
+
+abbrev pub number_read : List ℕ → Option (ℕ × List ℕ)
+number_read s = pick (number_ok s) (Some (capped (number_of 0 (take (number_long s) s)), from_word s)) None
+
+abbrev pub word_read : List ℕ → Option (ℕ × ℕ × List ℕ)
+word_read s = pick (word_ok s) (Some (rights (word_in s), lefts (word_in s), drop (suc (word_long s)) s)) None
+
+abbrev pub angle_read : List ℕ → Option (ℕ × Bool × List ℕ)
+angle_read s = pick (angle_ok s) (Some (get_or s 0 0 - 48, eqb (get_or s 1 0) 10, drop 2 s)) None
 
 -- an entry as the code holds it
-pub record GotIs (x : Entry) (r : Got) : Type 0 where
-  pub dart : r.dart ≡ capped x.dart
-  pub right : r.right ≡ rights x.word
-  pub left : r.left ≡ lefts x.word
-  pub angle : r.angle ≡ x.angle
-  pub ends : r.ends ≡ x.ends
+abbrev pub held : Entry → Held
+held x = record { dart = capped x.dart; right = rights x.word; left = lefts x.word; angle = x.angle; last = x.ends }
 
-pub record EntryGot (s : List ℕ) (r : Got) : Type 0 where
-  pub is : GotIs (entry_in s) r
-  pub rest : behind s ≡ drop r.long s
-  pub some : 1 ≤ r.long
-  pub within : r.long ≤ length s
+abbrev pub GotIs : Entry → Held → Type 0
+GotIs x r = r ≡ held x
 
-pub record EntryRead (s : List ℕ) (r : Got) : Type 0 where
-  pub ok : r.ok ≡ entry_ok s
-  pub read : r.ok ≡ true → EntryGot s r
+abbrev pub entry_read : List ℕ → Option (Held × List ℕ)
+entry_read s = pick (entry_ok s) (Some (held (entry_in s), behind s)) None
 
--- the entries are the first ones of a plan
-abbrev pub fits : List Entry → List Entry → Bool
-fits [] xs = true
-fits (e ∷ es) [] = false
-fits (e ∷ es) (x ∷ xs) = (eqb e.dart x.dart && same_b e.ends x.ends) && fits es xs
+-- what is left of a plan behind entries that are its first ones, by dart and end of line
+abbrev pub left_behind : List Entry → List Entry → Option (List Entry)
+left_behind [] xs = Some xs
+left_behind (e ∷ es) [] = None
+left_behind (e ∷ es) (x ∷ xs) = pick (eqb e.dart x.dart && same_b e.ends x.ends) (left_behind es xs) None
+
+-- the same, of turns that the code holds
+abbrev pub left_seen : Option (Bor (List Turn)) → Option (List Entry)
+left_seen r = option_map (λ s. laid s.now) r
 
 -- by dart, the angles and the right and left bends of entries
 pub record Tables (es : List Entry) (a r l : List ℕ) : Type 0 where
@@ -59,25 +63,16 @@ pub record Tables (es : List Entry) (a r l : List ℕ) : Type 0 where
   pub rights : Table 256 (λ d. rights (word_of d es)) r
   pub lefts : Table 256 (λ d. lefts (word_of d es)) l
 
-pub record FilledBy (plan es : List Entry) (f : Filled) (a r l : List ℕ) : Type 0 where
-  pub mixed : f.mixed ≡ some_mixed es
-  pub fitting : f.fits ≡ fits es plan
-  pub count : f.fits ≡ true → f.count ≡ length es
-  pub tables : f.fits ≡ true → Tables es a r l
+abbrev pub TablesOf : List Entry → Counted → Type 0
+TablesOf es c = Tables es c.angles c.rights c.lefts
 
--- a plan in arrays
-pub record PlanArrays (n : ℕ) (o : List ℕ) (e : List Bool) : Type 0 where
-  pub few : n ≤ 256
-  pub order_long : length o ≡ 256
-  pub ends_long : length e ≡ 256
-  pub below : (i : ℕ) → i < n → get_or o i 0 < 256
-  pub once : distinct (darts_of (laid n o e)) ≡ true
+pub record FilledBy (plan es : List Entry) (left : Option (List Entry)) (c : Counted) : Type 0 where
+  pub left_is : left ≡ left_behind es plan
+  pub tables : (xs : List Entry) → left ≡ Some xs → TablesOf es c
 
--- arrays of 256 places
-pub record Sized (a r l : List ℕ) : Type 0 where
-  pub angles : length a ≡ 256
-  pub rights : length r ≡ 256
-  pub lefts : length l ≡ 256
+-- a plan has each of its darts once
+abbrev pub IsPlan : List Entry → Type 0
+IsPlan xs = distinct (darts_of xs) ≡ true
 
 -- 30 over the whole text, 31 over the whole text, then the faces
 abbrev pub entries_fault : List Entry → List ℕ → ℕ
@@ -86,15 +81,11 @@ entries_fault plan t =
     (first_of (when (some_mixed (entries_in t)) 31)
     (when (not (same_faces (entries_in t) plan)) 32))
 
-pub record ParsedBy (plan : List Entry) (t : List ℕ) (r : Parsed) : Type 0 where
-  pub number : r.number ≡ entries_fault plan t
-  pub tables : r.number ≡ 0 → Tables (entries_in t) r.angles r.rights r.lefts
+pub record ParsedBy (plan : List Entry) (t : List ℕ) (r : Result Counted Refusal) : Type 0 where
+  pub number : fault_of r ≡ entries_fault plan t
+  pub tables : IfOk r (TablesOf (entries_in t))
 
 -- n darts from d on have as many bends one way as their twins the other
 abbrev pub twin_counts : ℕ → ℕ → List ℕ → List ℕ → Bool
 twin_counts zero d r l = true
 twin_counts (suc n) d r l = (eqb (get_or r (twin d) 0) (get_or l d 0) && eqb (get_or l (twin d) 0) (get_or r d 0)) && twin_counts n (suc d) r l
-
--- 31 and 32 from what was read
-abbrev pub entries_number : Bool → Bool → ℕ → ℕ → ℕ
-entries_number mixed fitting count n = first_of (when mixed 31) (when (not (fitting && eqb count n)) 32)

@@ -1,6 +1,6 @@
 -- A text printed from a plan and counts.
 use Rattle.std.specs.Prelude.{◌≡◌, Bool, true, false, List, ℕ, zero, suc, ◌+◌, ◌%◌, ◌≤◌, ◌<◌, min, length, get_or}
-use Rattle.embedding.specs.declared.Plate.{Plate as Held}
+use Rattle.embedding.specs.declared.Plate.{Plate as HeldPlate}
 use Rattle.shapes.specs.Claims.{Standing}
 use Rattle.plates.specs.Plates.{twin}
 use Rattle.plates.specs.Shapes.{angles_ok, even_word}
@@ -8,6 +8,8 @@ use Rattle.plates.specs.Listing.{decimal}
 use Rattle.plates.specs.Text.{Entry, entry, word_text, entry_text, text_of}
 use Rattle.plates.specs.Lines.{both_ways}
 use Rattle.texts.specs.Plan.{refill, laid}
+use Rattle.texts.specs.declared.planning.Turn.{Turn}
+use Rattle.texts.specs.declared.entries.Entry.{Entry as Held}
 
 -- the word of a dart, from the right bends of all darts
 abbrev pub count_word : List ℕ → ℕ → List Bool
@@ -32,26 +34,28 @@ pub record Straight (a r : List ℕ) : Type 0 where
   pub one_way : both_ways r ≡ false
   pub angles-ok : angles_ok a ≡ true
 
--- one entry, and room for it from a place on
-pub record EntryRoom (d right left angle : ℕ) (b : Bool) (at room : ℕ) : Type 0 where
-  pub one_way : min right left ≡ 0
-  pub angle_most : angle ≤ 4
-  pub enough : at + length (entry_text (entry d (even_word right left) angle b)) ≤ room
+-- an entry of the code, which has a word of one digit
+abbrev pub entry_of : Held → Entry
+entry_of e = entry e.dart (even_word e.right e.left) e.angle e.last
 
--- a plan of as many darts, and room for its text
-pub record PrintRoom (o : List ℕ) (e : List Bool) (a r : List ℕ) (room : ℕ) : Type 0 where
+-- one entry, and room for it from a place on
+pub record EntryRoom (e : Held) (at room : ℕ) : Type 0 where
+  pub one_way : min e.right e.left ≡ 0
+  pub angle_most : e.angle ≤ 4
+  pub enough : at + length (entry_text (entry_of e)) ≤ room
+
+-- a plan of these darts, and room for its text
+pub record PrintRoom (ts : List Turn) (a r : List ℕ) (room : ℕ) : Type 0 where
   pub straight : Straight a r
-  pub order_long : length o ≡ 256
-  pub ends_long : length e ≡ 256
-  pub below : (i : ℕ) → i < length r → get_or o i 0 < length r
-  pub enough : length (text_of (count_entries a r (laid (length r) o e))) ≤ room
+  pub below : (i : ℕ) (t : Turn) → i < length ts → (get_or ts i t).dart < length r
+  pub enough : length (text_of (count_entries a r (laid ts))) ≤ room
 
 -- counts for each dart of a held plate
-pub record CountsFor (h : Held) (a r : List ℕ) : Type 0 where
+pub record CountsFor (h : HeldPlate) (a r : List ℕ) : Type 0 where
   pub angles_many : length a ≡ h.darts
   pub rights_many : length r ≡ h.darts
   pub standing : Standing h
 
-pub record PrintCounts (h : Held) (a r : List ℕ) : Type 0 where
+pub record PrintCounts (h : HeldPlate) (a r : List ℕ) : Type 0 where
   pub counts : CountsFor h a r
   pub straight : Straight a r

@@ -10,7 +10,7 @@ use Rattle.plates.specs.Shapes.{pair_sums, all_within}
 use Rattle.plates.specs.Files.{list_fault, plate_of}
 use Rattle.plates.specs.Read.{Walked}
 use Rattle.texts.specs.Parses.{twin_counts}
-use Rattle.texts.specs.declared.parsing.Parsed.{Parsed}
+use Rattle.texts.specs.declared.parsing.Counted.{Counted}
 
 -- words that do not agree across a strip, then the verdict on the counts, then the limits
 abbrev pub counted_fault : Plate → List ℕ → ℕ → List ℕ → List ℕ → List ℕ → ℕ
@@ -20,7 +20,7 @@ counted_fault p ls n a r l =
     (when (not (all_within ls (pair_sums (take n r)))) 25))
 
 -- what was read of a text for a held plate
-pub record ParsedFor (h : Held) (r : Parsed) : Type 0 where
+pub record ParsedFor (h : Held) (r : Counted) : Type 0 where
   pub standing : Standing h
   pub angles_long : length r.angles ≡ 256
   pub rights_long : length r.rights ≡ 256

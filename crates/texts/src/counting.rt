@@ -1,5 +1,5 @@
 //! Counts of a shape: whether they bend some strip both ways, and their text.
-ghost use Rattle.std.specs.Prelude.{◌≡◌, ◌&&◌, ◌≤◌, ltb, length};
+ghost use Rattle.std.specs.Prelude.{◌≡◌, ◌≤◌, length};
 ghost use Rattle.embedding.specs.Plates.{Plate as PlateOf};
 ghost use Rattle.embedding.specs.Read.{Stands};
 ghost use Rattle.shapes.specs.Claims.{Accepted};
@@ -13,26 +13,18 @@ use crate::printing::{text_long, write_entries};
 use embedding::Plate;
 use plates::Listed;
 
-pub fn is_both(x: u8, y: u8) -> bool
-    ensures { result ≡ (ltb 0 x && ltb 0 y) }
-{
-    if 0 < x {
-        return 0 < y;
-    }
-    false
-}
-
 // Whether some strip bends both ways.
 pub fn both_ways(rights: &[u8]) -> bool
     requires { length rights.now ≤ 256 }
     ensures { result ≡ both_ways rights.now }
 {
-    let mut i = 0;
-    while i + 1 < rights.len() {
-        if is_both(rights[i], rights[i + 1]) {
+    // A while: of `chunks_exact(2).any(..)` the proof did not close, since no clause gives the pairs as a list.
+    let mut rest = rights;
+    while let [right, left, others @ ..] = rest {
+        if 0 < *right && 0 < *left {
             return true;
         }
-        i += 2;
+        rest = others;
     }
     false
 }
@@ -50,8 +42,6 @@ pub fn print_counts(plate: Plate, angles: &[u8], rights: &[u8], out: &mut [u8]) 
         };
     }
     let plan = plan_of(plate);
-    let order = plan.order;
-    let ends = plan.ends;
-    write_entries(out, &order, &ends, angles, rights);
+    write_entries(out, plan.turns(), angles, rights);
     Listed { number: 0, long }
 }

@@ -8,7 +8,7 @@ ghost use Rattle.plates.specs.Encodes.{FileGiven, FileSays};
 ghost use Rattle.plates.specs.Texts.{ReadSays};
 ghost use Rattle.texts.specs.Reads.{counted_fault, ParsedFor, ListGiven};
 
-use crate::parsing::{Parsed, parse, twins_ok};
+use crate::parsing::{Counted, parse};
 use crate::planning::plan_of;
 use embedding::Plate;
 use fields::{Fields, content};
@@ -19,17 +19,16 @@ use shapes::judge::judge;
 use shapes::rates::limits_ok;
 
 // 32 for words that do not agree across a strip, then 20 and 21, then 25.
-fn counted_fault(plate: Plate, limits: &[u8], q: Parsed) -> u8
+fn counted_fault(plate: Plate, limits: &[u8], q: Counted) -> u8
     requires { ParsedFor plate q }
     ensures { (p : PlateOf) → Stands plate p → Accepted p → result ≡ counted_fault p limits.now plate.darts q.angles q.rights q.lefts }
 {
-    let angles = q.angles;
-    let rights = q.rights;
-    let lefts = q.lefts;
     let darts = plate.darts;
-    if !twins_ok(&rights, &lefts, darts) {
+    if !q.twins_agree(darts) {
         return 32;
     }
+    let angles = q.angles;
+    let rights = q.rights;
     let judged = judge(plate, &angles[..darts], &rights[..darts]);
     if judged != 0 {
         return judged;
@@ -55,18 +54,16 @@ pub fn read_placed(list: &[u8], f: Fields, plate: Plate, text: &[u8], out: &mut 
     ensures { ReadSays list.now text.now out.old out.new result }
 {
     let plan = plan_of(plate);
-    let order = plan.order;
-    let ends = plan.ends;
-    let darts = plate.darts;
-    let q = parse(text, &order, &ends, darts);
-    if q.number != 0 {
-        return refused_shape(q.number);
-    }
+    let q = match parse(text, plan.turns()) {
+        Ok(counted) => counted,
+        Err(refusal) => return refused_shape(refusal.number()),
+    };
     let limits = content(list, f, 6);
     let number = counted_fault(plate, limits, q);
     if number != 0 {
         return refused_shape(number);
     }
+    let darts = plate.darts;
     let angles = q.angles;
     let rights = q.rights;
     write_counts(list, f, &angles[..darts], &rights[..darts], out)

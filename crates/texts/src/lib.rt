@@ -16,6 +16,7 @@ use plates::reading::{read_list, read_shape};
 use plates::{Listed, Shaped};
 
 pub mod counting;
+pub mod entries;
 pub mod filing;
 pub mod parsing;
 pub mod planning;

@@ -1,24 +1,65 @@
 //! The faces of a plate in the sequence of its text: the outer face first, the others by smallest dart.
-ghost use Rattle.std.specs.Prelude.{◌≡◌, ◌+◌, length};
+ghost use Rattle.std.specs.Prelude.{◌≡◌, ◌+◌, ◌<◌, ◌≤◌, List, [], ◌∷◌, ◌++◌, length, take};
 ghost use Rattle.embedding.specs.Read.{Stands, place_of};
 ghost use Rattle.embedding.specs.Plates.{Plate as PlateOf};
 ghost use Rattle.shapes.specs.Claims.{Accepted, Standing};
+ghost use Rattle.texts.specs.declared.planning.Turn.{Turn};
 ghost use Rattle.texts.specs.Plan.{FaceRoom, FaceLaid, NumberRoom, NumberFits, NumberLaid, OuterIs, Laying, LayingOn, PlanHeld};
 
 use embedding::Plate;
+use std::marker::Model;
 
-// The darts laid so far, in turn, and whether each ends its line.
+// A dart in its turn, and whether it ends its line.
 #[derive(Clone, Copy)]
-pub struct Laid {
-    pub order: [u8; 256],
-    pub ends: [bool; 256],
-    pub at: usize,
+pub struct Turn {
+    pub dart: u8,
+    pub last: bool,
 }
 
-pub fn wide(b: u8) -> usize
-    ensures { result ≡ b }
-{
-    b as usize
+// The turns laid so far. An array with its length: the library has no heap.
+#[derive(Drop)]
+pub struct Laid {
+    turns: [Turn; 256],
+    count: usize,
+}
+
+// Clauses see the turns.
+impl Model for Laid {
+    ghost Value = { List Turn };
+
+    ghost view = { λ q. take q.count q.turns };
+
+    ghost invariant = { λ q. q.count ≤ 256 };
+}
+
+impl Laid {
+    fn new() -> Laid
+        ensures { result ≡ [] }
+    {
+        let none = Turn {
+            dart: 0,
+            last: false,
+        };
+        Laid {
+            turns: [none; 256],
+            count: 0,
+        }
+    }
+
+    fn push(&mut self, turn: Turn)
+        requires { length self.old < 256 }
+        ensures { self.new ≡ self.old ++ turn ∷ [] }
+    {
+        self.turns[self.count] = turn;
+        self.count += 1;
+    }
+
+    // The turns, as a slice.
+    pub fn turns(&self) -> &[Turn]
+        ensures { result.now ≡ self.now }
+    {
+        &self.turns[..self.count]
+    }
 }
 
 // Where a face's number stands first: at its smallest dart.
@@ -26,58 +67,49 @@ fn lead_of(face: &[u8; 256], number: u8) -> usize
     requires { length face.now ≡ 256 }
     ensures { result ≡ place_of number face.now }
 {
-    let mut d = 0;
-    while d < 256 {
-        if face[d] == number {
-            return d;
-        }
-        d += 1;
-    }
-    d
+    face.iter().position(|x| *x == number).unwrap_or(256)
 }
 
 // The face of dart `start`, laid behind the others.
-fn lay_face(next: &[u8; 256], darts: usize, start: usize, q: Laid) -> Laid
-    requires { FaceRoom next.now darts start q }
-    ensures { FaceLaid next.now darts start q result }
+fn lay_face(next: &[u8; 256], darts: usize, start: usize, plan: &mut Laid)
+    requires { FaceRoom next.now darts start plan.old }
+    ensures { FaceLaid next.now darts start plan.old plan.new }
 {
-    let mut order = q.order;
-    let mut ends = q.ends;
-    let mut at = q.at;
-    let mut d = start;
+    let mut dart = start;
+    // A loop: the face goes on from dart to dart, and ends where it comes back to its start.
     loop {
-        let after = wide(next[d]);
-        let is_last = after == start;
-        order[at] = d as u8;
-        ends[at] = is_last;
-        at += 1;
-        if after == start {
-            return Laid { order, ends, at };
+        let after = usize::from(next[dart]);
+        let last = after == start;
+        plan.push(Turn {
+            dart: dart as u8,
+            last,
+        });
+        if last {
+            return;
         }
-        d = after;
+        dart = after;
     }
 }
 
 // The face of a number, laid behind the others.
-fn lay_number(plate: Plate, number: u8, q: Laid) -> Laid
-    requires { NumberRoom plate number q }
-    ensures { (p : PlateOf) → Stands plate p → Accepted p → NumberFits p number q → NumberLaid p number q result }
+fn lay_number(plate: Plate, number: u8, plan: &mut Laid)
+    requires { NumberRoom plate number plan.old }
+    ensures { (p : PlateOf) → Stands plate p → Accepted p → NumberFits p number plan.old → NumberLaid p number plan.old plan.new }
 {
     let face = plate.face;
     let next = plate.next;
     let start = lead_of(&face, number);
-    lay_face(&next, plate.darts, start, q)
+    lay_face(&next, plate.darts, start, plan);
 }
 
 // Face `k` laid, unless it is the outer one.
-fn lay_next(plate: Plate, outer: u8, k: usize, q: Laid) -> Laid
-    requires { LayingOn plate outer k q }
-    ensures { (p : PlateOf) → Stands plate p → Accepted p → OuterIs p outer → Laying p k q → Laying p (k + 1) result }
+fn lay_next(plate: Plate, outer: u8, k: usize, plan: &mut Laid)
+    requires { LayingOn plate outer k plan.old }
+    ensures { (p : PlateOf) → Stands plate p → Accepted p → OuterIs p outer → Laying p k plan.old → Laying p (k + 1) plan.new }
 {
-    if k == wide(outer) {
-        return q;
+    if k != usize::from(outer) {
+        lay_number(plate, k as u8, plan);
     }
-    lay_number(plate, k as u8, q)
 }
 
 // All faces laid.
@@ -86,19 +118,11 @@ pub fn plan_of(plate: Plate) -> Laid
     ensures { (p : PlateOf) → Stands plate p → Accepted p → PlanHeld p result }
 {
     let face = plate.face;
-    let outer_dart = wide(plate.outer);
-    let outer = face[outer_dart];
-    let none = Laid {
-        order: [0; 256],
-        ends: [false; 256],
-        at: 0,
-    };
-    let mut q = lay_number(plate, outer, none);
-    let mut k = 0;
-    while k < plate.faces {
-        let more = lay_next(plate, outer, k, q);
-        q = more;
-        k += 1;
+    let outer = face[usize::from(plate.outer)];
+    let mut plan = Laid::new();
+    lay_number(plate, outer, &mut plan);
+    for k in 0..plate.faces {
+        lay_next(plate, outer, k, &mut plan);
     }
-    q
+    plan
 }

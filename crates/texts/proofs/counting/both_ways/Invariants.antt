@@ -1,12 +1,11 @@
--- `texts::counting::both_ways` scans strip by strip.
+-- `texts::counting::both_ways`: the strips left answer for all.
 use mathlib.Core.Path.{◌≡◌}
-use Prim.Native.Nat.{◌-◌, ◌≤◌}
-use lib.ListN.{length, drop}
+use lib.ListN.{length}
 use Rattle.plates.specs.Lines.{both_ways}
 use Rattle.texts.proofs.counting.both_ways.Given as goal
 
-abbrev pub invariant-loop-i : goal.invariant-loop-i
-invariant-loop-i l = (l.i ≤ 258) × (both_ways (drop l.i l.rights) ≡ both_ways l.rights)
+abbrev pub invariant-loop-rest : goal.invariant-loop-rest
+invariant-loop-rest l = both_ways l.rest ≡ both_ways l.rights
 
-abbrev pub decreases-loop-i : goal.decreases-loop-i
-decreases-loop-i l = length l.rights - l.i
+abbrev pub decreases-loop-rest : goal.decreases-loop-rest
+decreases-loop-rest l = length l.rest

@@ -6,8 +6,8 @@ use Rattle.texts.proofs.FaceLeads.{few}
 use native.Mathlib.Omega.{arith}
 use Rattle.texts.proofs.filing.counted_fault.Goals as goal
 
-pub twins_ok-requires : goal.twins_ok-requires
-twins_ok-requires c = let (p, s, a) = c.requires.standing in (ap (λ (n : ℕ). n % 2) s.dart_count ∙ a.even_darts, omega (arith, s.dart_count, few s a))
+pub twins_agree-requires : goal.twins_agree-requires
+twins_agree-requires c = let (p, s, a) = c.requires.standing in (ap (λ (n : ℕ). n % 2) s.dart_count ∙ a.even_darts, omega (arith, s.dart_count, few s a))
 
 pub slice_bounds-angles-end : goal.slice_bounds-angles-end
 slice_bounds-angles-end c = let (p, s, a) = c.requires.standing in omega (arith, c.requires.angles_long, s.dart_count, few s a)

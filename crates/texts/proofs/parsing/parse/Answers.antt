@@ -1,43 +1,61 @@
 -- `texts::parsing::parse`: entry by entry; at the end, or at what is no entry, the answer.
-use mathlib.Core.Path.{subst}
-use mathlib.Core.List.{List}
-use Prim.Native.Nat.{ℕ}
-use borrow.Author.Tests.{not-true, not-false}
-use Rattle.texts.specs.Parses.{EntryRead}
-use Rattle.texts.proofs.LaidLaws.{laid_long}
-use Rattle.texts.proofs.ScanLaws.{lent_rest}
-use Rattle.texts.proofs.FillLaws.{nothing_filled, nothing_sized}
-use Rattle.texts.proofs.ParseLaws.{parsing_start, no_form, parsing_more, taken, not_ended, end_filled, end_number, form-refused, all_read}
+use Rattle.std.proofs.Common.{◌≡◌, refl, sym, ap, subst, rules, length, Err}
+use Rattle.refusals.specs.declared.Refusal.TheVariants.{TextForm, TextFaces}
+use Rattle.texts.specs.Parses.{Gives, ParsedBy, entry_read, left_seen}
+use Rattle.texts.specs.Plan.{laid}
+use Rattle.texts.proofs.FillLaws.{nothing_filled}
+use Rattle.texts.proofs.ParseLaws.{parsing_start, no_form, rest_shorter, taken, parsing_more, not_closed, some_word, not_first, some_unread, all_read, form-refused}
 use Rattle.texts.proofs.parsing.parse.Goals as goal
 
-pub loop-at-init : goal.loop-at-init
-loop-at-init c = parsing_start _ c.args.text.now (nothing_filled _) nothing_sized
+pub loop-rest-init : goal.loop-rest-init
+loop-rest-init c = parsing_start _ c.args.text.now (nothing_filled _)
 
-pub returns-then-not-e : goal.returns-then-not-e
-returns-then-not-e c =
-    let l = c.loop-at in
-    let more = c.loop-at-test.true in
-    let e = c.read_entry-e in
-    let read = subst (λ (x : List ℕ). EntryRead x e.result) (lent_rest c.args.text.now l.at) e.ensures in
-    form-refused (no_form l.invariant more read (not-true e.result.ok c.if-not-e.true)) c.form_refused.ensures
+pub returns-in_err-entry : goal.returns-in_err-entry
+returns-in_err-entry c =
+    let l = c.loop-rest in
+    let none = subst (λ r. Gives (λ x. (x.0, x.1.now)) r (entry_read l.rest.now)) c.in_err-entry.ensures.ok_part c.read_entry.ensures in
+    let some : length l.rest.now ≡ 0 → ⊥ = search rules in
+    let refused : c.from_residual.result ≡ Err TextForm = search rules in
+    subst (ParsedBy (laid c.args.plan.now) c.args.text.now) (sym refused) (form-refused (no_form l.invariant some none))
 
-pub loop-at-preserved : goal.loop-at-preserved
-loop-at-preserved c =
-    let l = c.loop-at in
-    let more = c.loop-at-test.true in
-    let e = c.read_entry-e in
-    let read = subst (λ (x : List ℕ). EntryRead x e.result) (lent_rest c.args.text.now l.at) e.ensures in
-    let good = not-false e.result.ok c.if-not-e.false in
-    parsing_more l.invariant more read good (taken l.invariant more read good c.take_entry-f.ensures.1) c.take_entry-f.ensures.0
+pub loop-rest-smaller : goal.loop-rest-smaller
+loop-rest-smaller c =
+    let l = c.loop-rest in
+    let read = subst (λ r. Gives (λ x. (x.0, x.1.now)) r (entry_read l.rest.now)) c.in_ok-entry.ensures.ok_part c.read_entry.ensures in
+    let some : length l.rest.now ≡ 0 → ⊥ = search rules in
+    rest_shorter l.invariant some read
 
-pub returns-then-not-is_closed : goal.returns-then-not-is_closed
-returns-then-not-is_closed c = form-refused (not_ended c.loop-at.invariant c.loop-at-test.false (not-true c.loop-at.is_closed c.if-not-is_closed.true-raw)) c.form_refused-then-not-is_closed.ensures
+pub loop-rest-preserved : goal.loop-rest-preserved
+loop-rest-preserved c =
+    let l = c.loop-rest in
+    let read = subst (λ r. Gives (λ x. (x.0, x.1.now)) r (entry_read l.rest.now)) c.in_ok-entry.ensures.ok_part c.read_entry.ensures in
+    let some : length l.rest.now ≡ 0 → ⊥ = search rules in
+    parsing_more l.invariant some read (taken l.invariant some read c.take_entry-left.ensures c.requires) c.is_mixed-mixed.ensures refl
+
+pub returns-then-not-closed : goal.returns-then-not-closed
+returns-then-not-closed c =
+    let over : length c.loop-rest.rest.now ≡ 0 = search rules in
+    not_closed c.loop-rest.invariant over c.if-not-closed.true
+
+pub returns-then-mixed : goal.returns-then-mixed
+returns-then-mixed c =
+    let over : length c.loop-rest.rest.now ≡ 0 = search rules in
+    some_word c.loop-rest.invariant over c.if-not-closed.false c.if-mixed.true
+
+pub returns-in_err-unread : goal.returns-in_err-unread
+returns-in_err-unread c =
+    let over : length c.loop-rest.rest.now ≡ 0 = search rules in
+    let refused : c.from_residual-in_err-unread.result ≡ Err TextFaces = search rules in
+    subst (ParsedBy (laid c.args.plan.now) c.args.text.now) (sym refused) (not_first c.loop-rest.invariant over c.if-not-closed.false c.if-mixed.false (ap left_seen c.in_err-unread.ensures.ok_part))
+
+pub returns-then-not-is_empty : goal.returns-then-not-is_empty
+returns-then-not-is_empty c =
+    let over : length c.loop-rest.rest.now ≡ 0 = search rules in
+    let more : length c.in_ok-unread.unread.now ≡ 0 → ⊥ = search rules in
+    some_unread c.loop-rest.invariant over c.if-not-closed.false c.if-mixed.false _ more (ap left_seen c.in_ok-unread.ensures.ok_part)
 
 pub returns : goal.returns
 returns c =
-    let a = c.args in
-    let l = c.loop-at in
-    let end = c.loop-at-test.false in
-    let closed = not-false l.is_closed c.if-not-is_closed.false-raw in
-    let long = laid_long a.n a.order.now a.ends.now in
-    all_read a.n (end_filled l.invariant end closed a.n long) (end_number l.invariant end closed a.n long) c.entries_number-number.ensures
+    let over : length c.loop-rest.rest.now ≡ 0 = search rules in
+    let none : length c.in_ok-unread.unread.now ≡ 0 = search rules in
+    all_read c.loop-rest.invariant over c.if-not-closed.false c.if-mixed.false _ none (ap left_seen c.in_ok-unread.ensures.ok_part)

@@ -1,25 +1,29 @@
 -- `texts::parsing::take_entry`: an entry that is the plan's next, or any other.
-use borrow.Author.Tests.{not-true, not-false}
-use Rattle.texts.proofs.FillLaws.{taken_late, taken_other, taken_planned, sized_set}
+use Rattle.std.proofs.Common.{◌∷◌, ◌<◌, [], ◌++◌, Some, ap, sym, subst, ◌∙◌, rules}
+use Rattle.texts.specs.Plan.{laid}
+use Rattle.texts.specs.Parses.{FilledBy, left_seen}
+use Rattle.texts.proofs.FillLaws.{ends_same, ends_other, taken_late, taken_behind, other_dart, other_end, taken_planned}
+use Rattle.texts.proofs.parsing.take_entry.Goals.{then-entry-d-via-then-entry-d, then-entry-d-via-else-entry-d+then-entry-turn}
 use Rattle.texts.proofs.parsing.take_entry.Goals as goal
 
-pub returns-then-not-f : goal.returns-then-not-f
-returns-then-not-f c =
-    let pre = c.requires in
-    let fits = c.args.f.fits in
-    (pre.1, λ es x is filled. taken_late pre.0 c.is_both.ensures c.either-mixed.ensures es x is filled (not-true fits c.if-not-f.true) c.not_fitting.ensures.0 c.not_fitting.ensures.1)
+pub returns-in_err-left : goal.returns-in_err-left
+returns-in_err-left c = λ plan es x once is filled. subst (λ r. FilledBy plan (es ++ x ∷ []) (left_seen r) c.args.counted.now) (sym c.from_residual.ensures) (taken_late x once is filled (ap left_seen c.in_err-left.was))
 
-pub returns-then-not-is_planned : goal.returns-then-not-is_planned
-returns-then-not-is_planned c =
-    let pre = c.requires in
-    let fits = not-false c.args.f.fits c.if-not-f.false in
-    let next = c.is_planned in
-    (pre.1, λ es x is filled. taken_other pre.0 c.is_both.ensures c.either-mixed.ensures es x is filled fits next.ensures (not-true next.result c.if-not-is_planned.true-raw) c.not_fitting-then-not-is_planned.ensures.0 c.not_fitting-then-not-is_planned.ensures.1)
+pub returns-in_err-turn : goal.returns-in_err-turn
+returns-in_err-turn c = λ plan es x once is filled. subst (λ r. FilledBy plan (es ++ x ∷ []) (left_seen r) c.args.counted.now) (sym c.from_residual-in_err-turn.ensures) (taken_behind x once is filled _ c.in_err-turn.ensures.cases (ap left_seen c.in_ok-left.was))
+
+pub returns-then-entry-d : goal.returns-then-entry-d
+returns-then-entry-d c = λ plan es x once is filled.
+    let there = ap left_seen c.in_ok-left.was in
+    let first = c.in_ok-turn.ensures.cases.0 in
+    elim c.then-entry-d.branch [
+      | then-entry-d-via-then-entry-d w ↦ other_dart x once is filled _ _ (there ∙ ap (λ ts. Some (laid ts)) first) c.from-d.ensures (search rules) w.if-entry-d.true
+      | then-entry-d-via-else-entry-d+then-entry-turn w ↦ other_end x once is filled _ _ (there ∙ ap (λ ts. Some (laid ts)) first) c.from-d.ensures (search rules) w.if-entry-d.false (ends_other _ _ w.if-entry-turn.true)
+    ]
 
 pub returns : goal.returns
-returns c =
-    let pre = c.requires in
-    let a = c.args in
-    let fits = not-false a.f.fits c.if-not-f.false in
-    let next = c.is_planned in
-    (sized_set c.wide-d.result a.e.angle a.e.right a.e.left pre.1, λ es x is filled. taken_planned pre.0 c.is_both.ensures c.either-mixed.ensures es x is filled fits next.ensures (not-false next.result c.if-not-is_planned.false-raw) c.wide-d.ensures)
+returns c = λ plan es x once is filled.
+    let there = ap left_seen c.in_ok-left.was in
+    let first = c.in_ok-turn.ensures.cases.0 in
+    let below : c.from-d.result < 256 = search rules in
+    taken_planned x once is filled _ _ (there ∙ ap (λ ts. Some (laid ts)) first) c.from-d.ensures below c.if-entry-d.false (ends_same _ _ c.if-entry-turn.false)

@@ -1,10 +1,11 @@
 -- `texts::planning::lay_face` meets its contract: the walk from the first dart closes, and each of its darts is laid.
 use Prim.Native.Nat.{◌-◌}
+use lib.ListN.{length}
 use Rattle.texts.proofs.LaidLaws.{Walking}
 use Rattle.texts.proofs.planning.lay_face.Given as goal
 
-abbrev pub invariant-loop-order : goal.invariant-loop-order
-invariant-loop-order l = Walking l.next l.darts l.start l.initial.at l.initial.order l.initial.ends l.order l.ends l.at l.d
+abbrev pub invariant-loop-darts : goal.invariant-loop-darts
+invariant-loop-darts l = Walking l.next l.darts l.start l.initial.plan l.plan l.dart
 
-abbrev pub decreases-loop-order : goal.decreases-loop-order
-decreases-loop-order l = 256 - l.at
+abbrev pub decreases-loop-darts : goal.decreases-loop-darts
+decreases-loop-darts l = 256 - length l.plan

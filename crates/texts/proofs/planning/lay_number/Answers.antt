@@ -8,4 +8,4 @@ lay_face-requires c =
     number_room s a fits c.lead_of-start.ensures
 
 pub returns : goal.returns
-returns c = λ p s a fits. number_laid s a fits c.lead_of-start.ensures c.lay_face.ensures
+returns c = λ p s a fits. number_laid s a fits c.lead_of-start.ensures _ c.lay_face.ensures

@@ -1,15 +1,6 @@
--- `texts::printing::digits_long`: one, two or three digits.
-use mathlib.Core.Path.{sym}
-use native.Mathlib.Omega.{arith}
-use Rattle.plates.proofs.ListingText.{decimal_one_long}
-use Rattle.texts.proofs.PrintLaws.{two_long, three_long}
+-- `texts::printing::digits_long`: one more than the power of ten.
+use Rattle.texts.proofs.PrintLaws.{digits_counted}
 use Rattle.texts.proofs.printing.digits_long.Goals as goal
 
-pub returns-then-n-lt10 : goal.returns-then-n-lt10
-returns-then-n-lt10 c = (sym (decimal_one_long c.args.n c.if-n-lt10.true), omega arith)
-
-pub returns-then-n-lt100 : goal.returns-then-n-lt100
-returns-then-n-lt100 c = (sym (two_long c.args.n c.if-n-lt10.false c.if-n-lt100.true), omega arith)
-
-pub returns : goal.returns
-returns c = (sym (three_long c.args.n c.if-n-lt100.false c.requires), omega arith)
+pub returns-clause-long : goal.returns-clause-long
+returns-clause-long c = let log = c.checked_ilog10 in digits_counted c.args.n log.result log.ensures.none log.ensures.power_le log.ensures.next_power_gt c.unwrap_or.ensures

@@ -1,7 +1,11 @@
--- `texts::scanning::number_in`: the number of the digits passed, capped, and the rest.
-use native.Mathlib.Omega.{arith}
-use Rattle.texts.proofs.ScanLaws.{number_on}
+-- `texts::scanning::number_in`: the number is folded as its digits come.
+use Rattle.std.proofs.Common.{◌≡◌, ◌∙◌, rules}
+use Rattle.std.proofs.iter.runs.Made.{chains}
+use Rattle.std.specs.List.{fold}
+use Rattle.texts.proofs.ScanLaws.{add_digit, number_folded}
 use Rattle.texts.proofs.scanning.number_in.Goals as goal
 
-pub loop-i-preserved : goal.loop-i-preserved
-loop-i-preserved c = (omega (arith, c.cap-n.ensures), omega arith, number_on c.args.s.now c.loop-i.i c.loop-i.n _ _ c.loop-i.invariant.2 c.loop-i-test.true c.digit_of-digit.ensures.0 c.cap-n.ensures)
+pub returns : goal.returns
+returns c =
+    let told : c.fold.result ≡ fold add_digit 0 c.args.digits.now = search (rules, chains) in
+    told ∙ number_folded c.args.digits.now

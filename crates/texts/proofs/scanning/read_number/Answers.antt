@@ -1,11 +1,9 @@
--- `texts::scanning::read_number` from its parts.
-use native.Mathlib.Omega.{arith}
-use Rattle.plates.specs.Grammar.{is_digit}
-use Rattle.texts.proofs.ScanLaws.{lent_long, run_within}
+-- `texts::scanning::read_number`: digits, of which the first is no zero but where it is alone.
+use Rattle.std.proofs.Common.{sym, ◌∙◌}
+use Rattle.texts.proofs.ScanLaws.{number_got}
 use Rattle.texts.proofs.scanning.read_number.Goals as goal
 
-pub slice_bounds-number_in-end : goal.slice_bounds-number_in-end
-slice_bounds-number_in-end c = lent_long c.run_long-n.result c.args.s.now (run_within is_digit c.args.s.now c.run_long-n.result c.run_long-n.ensures)
-
-pub overflow_add-result : goal.overflow_add-result
-overflow_add-result c = omega (arith, run_within is_digit c.args.s.now c.run_long-n.result c.run_long-n.ensures)
+pub returns : goal.returns
+returns c =
+    let part = c.split_at.ensures in
+    number_got c.args.s.now c.run_long.ensures.run part.front part.front_len (sym c.is_number.ensures ∙ c.if-not-is_number.false) part.back c.in_ok-rest.ensures c.number_in.ensures
