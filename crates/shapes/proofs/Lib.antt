@@ -50,7 +50,6 @@ pub mod Tried
 pub mod Groups
 pub mod Chains
 pub mod Upward
-pub mod RangeFront
 pub mod StripLoops
 pub mod Sides
 pub mod Verdict

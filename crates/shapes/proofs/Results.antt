@@ -5,7 +5,7 @@ use mathlib.Core.List.{List, []}
 use Prim.Native.Nat.{ℕ, ◌+◌, ◌≤◌, ◌<◌}
 use native.Mathlib.Omega.{arith}
 use lib.ListN.{length, get_or, take, drop}
-use lib.Seq.{ext_get_or, length-take-le, get_or-take}
+use lib.Seq.{get_or-take}
 use Rattle.finite.specs.Tables.{Table}
 use Rattle.finite.proofs.Tables.{table_only}
 use Rattle.finite.proofs.Tests.{not_both}

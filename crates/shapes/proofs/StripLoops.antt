@@ -1,18 +1,16 @@
 -- Strips in turn against their limits and prices: what the rest answers the whole answers. Prices that pass the test are fair.
-use mathlib.Core.Path.{◌≡◌, refl, sym, ap, ap₂, ◌∙◌}
-use mathlib.Core.Bool.{Bool, true, false, ◌&&◌, ◌||◌}
+use mathlib.Core.Path.{◌≡◌, refl, sym, ap, ◌∙◌}
+use mathlib.Core.Bool.{Bool, true, ◌&&◌, ◌||◌}
 use mathlib.Core.List.{List, [], ◌∷◌}
 use Prim.Native.Nat.{ℕ, zero, suc, min, ◌+◌, ◌*◌, ◌≤◌, ◌<◌}
 use native.Mathlib.Nat.{mul-le-mul}
 use native.Mathlib.Omega.{arith}
 use borrow.Author.Tests.{leb-true}
 use lib.Dec.{leb}
-use lib.ListN.{length, get_or, drop, drop_of_length-le}
-use lib.Seq.{get_or-drop, drop-drop}
+use lib.ListN.{length, get_or}
 use Rattle.std.specs.List.{list_all, range_with_len}
 use Rattle.finite.proofs.Sums.{sum_below}
 use Rattle.finite.proofs.Tests.{and_left, and_right}
-use Rattle.embedding.proofs.Fronts.{front}
 use Rattle.shapes.proofs.Strips.{free_within}
 use Rattle.shapes.proofs.Chains.{all_shift}
 use Rattle.shapes.specs.Rates.{rates, Fair, prices_ok, all_within, priced_sum}

@@ -1,5 +1,5 @@
 -- The verdict on a shape given as counts: refusals 19, 20 and 21, and what the steps to it give.
-use Rattle.std.specs.Prelude.{◌≡◌, Bool, true, ◌&&◌, not, List, ℕ, zero, suc, ◌+◌, ◌%◌, ◌≤◌, eqb, length, get_or}
+use Rattle.std.specs.Prelude.{◌≡◌, Bool, true, ◌&&◌, not, List, ℕ, zero, suc, ◌+◌, eqb, length, get_or}
 use Rattle.embedding.specs.Plates.{pick, when, first_of, all_below, Plate, twin, faces}
 use Rattle.shapes.specs.Shapes.{angles_ok, posts_ok, faces_ok, shape_of}
 

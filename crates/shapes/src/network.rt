@@ -11,14 +11,6 @@ use crate::judge::key_of;
 use crate::rates::{StripRates, given_or};
 use embedding::{Plate, twin_of};
 
-// The node of the face of dart `d`.
-fn node_of(posts: usize, darts: usize, face: &[u8], d: usize) -> u8
-    requires { Faced posts darts face.now × (d < darts) }
-    ensures { result ≡ node_at posts face.now d }
-{
-    posts as u8 + face[d]
-}
-
 // The most units across the strip of dart `d`: its limit, 255 being none.
 fn bend_most(limits: &[u8], d: usize) -> u16
     ensures { result ≡ bend_most limits.now d }
@@ -27,14 +19,6 @@ fn bend_most(limits: &[u8], d: usize) -> u16
         Some(most) if *most < 255 => u16::from(*most),
         _ => 65535,
     }
-}
-
-// Does dart `d` end at a post with exactly two strip ends?
-fn is_joint(ends: &[u8], degrees: &[u8], darts: usize, d: usize) -> bool
-    requires { Jointed darts ends.now degrees.now × (d < darts) }
-    ensures { result ≡ joint_at ends.now degrees.now d }
-{
-    degrees[key_of(ends, 64, twin_of(d))] == 2
 }
 
 // The most units on an arc of a corner: two and one where a third makes a cornered post, else all on the first.
@@ -46,36 +30,6 @@ fn corner_most(joint: bool, first: bool) -> u16
         (true, false) => 1,
         (false, true) => 4,
         (false, false) => 0,
-    }
-}
-
-// What node `v` supplies: the outer face nothing.
-fn supply_of(outer: usize, v: usize) -> u16
-    ensures { result ≡ supply_at outer v }
-{
-    if v == outer { 0 } else { 4 }
-}
-
-// What node `v` demands: a face two for each dart, the outer four more.
-fn demand_of(posts: usize, sizes: &[u16], outer: usize, v: usize) -> u16
-    requires { (v < posts + 66) × Sized sizes.now }
-    ensures { result ≡ demand_at posts sizes.now outer v }
-{
-    if v < posts {
-        return 0;
-    }
-    let corners = 2 * sizes[v - posts];
-    if v == outer { corners + 4 } else { corners }
-}
-
-// The arcs of the darts: from a dart's face to its twin's.
-fn fill_bend_ends(posts: usize, darts: usize, face: &[u8], tails: &mut [u8], heads: &mut [u8])
-    requires { Faced posts darts face.now × (length tails.old ≡ darts + (darts + darts)) × (length heads.old ≡ darts + (darts + darts)) }
-    ensures { BendEnds posts darts face.now darts tails.new heads.new }
-{
-    for d in 0..darts {
-        tails[d] = node_of(posts, darts, face, d);
-        heads[d] = node_of(posts, darts, face, twin_of(d));
     }
 }
 
@@ -116,69 +70,122 @@ fn lay_bend_rates(
     }
 }
 
-// The arcs of the corners, two to each: from the post to the dart's face.
-fn fill_corner_ends(
+// A held plate as the network's lists read it: the post and the face of each dart, the strip ends of each post, the size of each face, and the outer face's node.
+#[derive(Clone, Copy)]
+struct Layout<'a> {
     posts: usize,
     darts: usize,
-    ends: &[u8],
-    face: &[u8],
-    tails: &mut [u8],
-    heads: &mut [u8],
-)
-    requires { Faced posts darts face.now × (length ends.now ≡ 256) × (length tails.old ≡ darts + (darts + darts)) × (length heads.old ≡ darts + (darts + darts)) }
-    ensures { CornerEnds posts darts ends.now face.now darts tails.old heads.old tails.new heads.new }
-{
-    for d in 0..darts {
-        let first = darts + d + d;
-        let second = first + 1;
-        let post = ends[twin_of(d)];
-        let node = node_of(posts, darts, face, d);
-        tails[first] = post;
-        tails[second] = post;
-        heads[first] = node;
-        heads[second] = node;
-    }
+    ends: &'a [u8],
+    degrees: &'a [u8],
+    face: &'a [u8],
+    sizes: &'a [u16],
+    outer: usize,
+    ghost faced: { Faced posts darts face.now },
+    ghost jointed: { Jointed darts ends.now degrees.now },
+    ghost sized: { Sized sizes.now },
 }
 
-// The bounds and costs of the corners' arcs: at least one unit on the first, and on the second the unit that makes a cornered post.
-fn fill_corner_rates(
-    darts: usize,
-    ends: &[u8],
-    degrees: &[u8],
-    lowers: &mut [u16],
-    uppers: &mut [u16],
-    costs: &mut [u64],
-)
-    requires { Jointed darts ends.now degrees.now × (length lowers.old ≡ darts + (darts + darts)) × (length uppers.old ≡ darts + (darts + darts)) × (length costs.old ≡ darts + (darts + darts)) }
-    ensures { CornerRates darts ends.now degrees.now darts lowers.old uppers.old costs.old lowers.new uppers.new costs.new }
-{
-    for d in 0..darts {
-        let first = darts + d + d;
-        let second = first + 1;
-        let joint = is_joint(ends, degrees, darts, d);
-        lowers[first] = 1;
-        lowers[second] = 0;
-        uppers[first] = corner_most(joint, true);
-        uppers[second] = corner_most(joint, false);
-        costs[first] = 0;
-        costs[second] = 65536;
+impl Layout<'_> {
+    // The node of the face of dart `d`.
+    fn node_of(&self, d: usize) -> u8
+        requires { d < self.now.darts }
+        ensures { result ≡ node_at self.now.posts self.now.face.now d }
+    {
+        self.posts as u8 + self.face[d]
     }
-}
 
-fn fill_supplies(outer: usize, supplies: &mut [u16])
-    ensures { Table (length supplies.old) (supply_at outer) supplies.new }
-{
-    for (v, supply) in supplies.iter_mut().enumerate() {
-        *supply = supply_of(outer, v);
+    // Does dart `d` end at a post with exactly two strip ends?
+    fn is_joint(&self, d: usize) -> bool
+        requires { d < self.now.darts }
+        ensures { result ≡ joint_at self.now.ends.now self.now.degrees.now d }
+    {
+        self.degrees[key_of(self.ends, 64, twin_of(d))] == 2
     }
-}
 
-fn fill_demands(posts: usize, sizes: &[u16], outer: usize, demands: &mut [u16])
-    requires { (length demands.old ≤ posts + 66) × Sized sizes.now }
-    ensures { Table (length demands.old) (demand_at posts sizes.now outer) demands.new }
-{
-    for (v, demand) in demands.iter_mut().enumerate() {
-        *demand = demand_of(posts, sizes, outer, v);
+    // What node `v` supplies: the outer face nothing.
+    fn supply_of(&self, v: usize) -> u16
+        ensures { result ≡ supply_at self.now.outer v }
+    {
+        if v == self.outer { 0 } else { 4 }
+    }
+
+    // What node `v` demands: a face two for each dart, the outer four more.
+    fn demand_of(&self, v: usize) -> u16
+        requires { v < self.now.posts + 66 }
+        ensures { result ≡ demand_at self.now.posts self.now.sizes.now self.now.outer v }
+    {
+        if v < self.posts {
+            return 0;
+        }
+        let corners = 2 * self.sizes[v - self.posts];
+        if v == self.outer {
+            corners + 4
+        } else {
+            corners
+        }
+    }
+
+    // The arcs of the darts: from a dart's face to its twin's.
+    fn fill_bend_ends(&self, tails: &mut [u8], heads: &mut [u8])
+        requires { (length tails.old ≡ self.now.darts + (self.now.darts + self.now.darts)) × (length heads.old ≡ self.now.darts + (self.now.darts + self.now.darts)) }
+        ensures { BendEnds self.now.posts self.now.darts self.now.face.now self.now.darts tails.new heads.new }
+    {
+        for d in 0..self.darts {
+            tails[d] = self.node_of(d);
+            heads[d] = self.node_of(twin_of(d));
+        }
+    }
+
+    // The arcs of the corners, two to each: from the post to the dart's face.
+    fn fill_corner_ends(&self, tails: &mut [u8], heads: &mut [u8])
+        requires { (length tails.old ≡ self.now.darts + (self.now.darts + self.now.darts)) × (length heads.old ≡ self.now.darts + (self.now.darts + self.now.darts)) }
+        ensures { CornerEnds self.now.posts self.now.darts self.now.ends.now self.now.face.now self.now.darts tails.old heads.old tails.new heads.new }
+    {
+        for d in 0..self.darts {
+            let first = self.darts + d + d;
+            let second = first + 1;
+            let post = self.ends[twin_of(d)];
+            let node = self.node_of(d);
+            tails[first] = post;
+            tails[second] = post;
+            heads[first] = node;
+            heads[second] = node;
+        }
+    }
+
+    // The bounds and costs of the corners' arcs: at least one unit on the first, and on the second the unit that makes a cornered post.
+    fn fill_corner_rates(&self, lowers: &mut [u16], uppers: &mut [u16], costs: &mut [u64])
+        requires { (length lowers.old ≡ self.now.darts + (self.now.darts + self.now.darts)) × (length uppers.old ≡ self.now.darts + (self.now.darts + self.now.darts)) × (length costs.old ≡ self.now.darts + (self.now.darts + self.now.darts)) }
+        ensures { CornerRates self.now.darts self.now.ends.now self.now.degrees.now self.now.darts lowers.old uppers.old costs.old lowers.new uppers.new costs.new }
+    {
+        for d in 0..self.darts {
+            let first = self.darts + d + d;
+            let second = first + 1;
+            let joint = self.is_joint(d);
+            lowers[first] = 1;
+            lowers[second] = 0;
+            uppers[first] = corner_most(joint, true);
+            uppers[second] = corner_most(joint, false);
+            costs[first] = 0;
+            costs[second] = 65536;
+        }
+    }
+
+    fn fill_supplies(&self, supplies: &mut [u16])
+        ensures { Table (length supplies.old) (supply_at self.now.outer) supplies.new }
+    {
+        for (v, supply) in supplies.iter_mut().enumerate() {
+            *supply = self.supply_of(v);
+        }
+    }
+
+    fn fill_demands(&self, demands: &mut [u16])
+        requires { length demands.old ≤ self.now.posts + 66 }
+        ensures { Table (length demands.old) (demand_at self.now.posts self.now.sizes.now self.now.outer) demands.new }
+    {
+        for (v, demand) in demands.iter_mut().enumerate() {
+            *demand = self.demand_of(v);
+        }
     }
 }
 
@@ -197,17 +204,28 @@ pub fn lay_network(
     requires { Lent q tails.old heads.old lowers.old uppers.old costs.old supplies.old demands.old }
     ensures { network tails.new heads.new lowers.new uppers.new costs.new supplies.new demands.new ≡ rated_of (meant q) (rates by.entry.limits.now by.entry.prices.now) }
 {
-    let posts = q.posts;
-    let darts = q.darts;
-    let ends = q.ends;
-    let degrees = q.degrees;
-    let face = q.face;
-    let sizes = q.sizes;
-    let outer = posts + usize::from(face[usize::from(q.outer)]);
-    fill_bend_ends(posts, darts, &face, tails, heads);
+    let Plate {
+        posts,
+        darts,
+        ends,
+        degrees,
+        face,
+        sizes,
+        ..
+    } = q;
+    let layout = Layout {
+        posts,
+        darts,
+        ends: &ends,
+        degrees: &degrees,
+        face: &face,
+        sizes: &sizes,
+        outer: posts + usize::from(face[usize::from(q.outer)]),
+    };
+    layout.fill_bend_ends(tails, heads);
     lay_bend_rates(darts, by, lowers, uppers, costs);
-    fill_corner_ends(posts, darts, &ends, &face, tails, heads);
-    fill_corner_rates(darts, &ends, &degrees, lowers, uppers, costs);
-    fill_supplies(outer, supplies);
-    fill_demands(posts, &sizes, outer, demands);
+    layout.fill_corner_ends(tails, heads);
+    layout.fill_corner_rates(lowers, uppers, costs);
+    layout.fill_supplies(supplies);
+    layout.fill_demands(demands);
 }

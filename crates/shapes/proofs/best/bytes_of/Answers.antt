@@ -1,6 +1,5 @@
 -- `bytes_of`: the places before i are copied.
 use Rattle.finite.proofs.Tables.{table_none}
-use native.Mathlib.Omega.{arith}
 use Rattle.shapes.proofs.best.bytes_of.Goals as goal
 
 pub loop-i-init : goal.loop-i-init

@@ -1,5 +1,5 @@
 -- `angles_ok`: one test for all.
-use Rattle.std.proofs.Common.{rules, tests, arith, refl, ◌∙◌}
+use Rattle.std.proofs.Common.{rules, tests, refl, ◌∙◌}
 use mathlib.Core.Bool.{◌&&◌}
 use lib.Dec.{leb}
 use Rattle.std.proofs.lemmas.Iterator.{YieldsList-from_slice}

@@ -1,6 +1,0 @@
--- `fill_bend_ends`: the darts below d have their arcs' ends.
-use Rattle.shapes.specs.Entries.{BendEnds}
-use Rattle.shapes.proofs.network.fill_bend_ends.Given as goal
-
-abbrev pub invariant-loop-d : goal.invariant-loop-d
-invariant-loop-d l = BendEnds l.posts l.darts l.face l.d l.tails l.heads

@@ -1,6 +1,0 @@
--- `fill_corner_ends`: the corners below d have their arcs' ends.
-use Rattle.shapes.specs.Entries.{CornerEnds}
-use Rattle.shapes.proofs.network.fill_corner_ends.Given as goal
-
-abbrev pub invariant-loop-d : goal.invariant-loop-d
-invariant-loop-d l = CornerEnds l.posts l.darts l.ends l.face l.d l.initial.tails l.initial.heads l.tails l.heads

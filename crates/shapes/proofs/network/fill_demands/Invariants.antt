@@ -1,7 +1,0 @@
--- `fill_demands`: the nodes below v have their demand.
-use lib.ListN.{length}
-use Rattle.shapes.specs.Entries.{demand_at, Begun}
-use Rattle.shapes.proofs.network.fill_demands.Given as goal
-
-abbrev pub invariant-loop-v : goal.invariant-loop-v
-invariant-loop-v l = Begun (length l.initial.demands) (demand_at l.posts l.sizes l.outer) l.v l.demands
