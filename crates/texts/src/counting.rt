@@ -17,15 +17,8 @@ use shapes::counts::Counts;
 pub fn both_ways(rights: &[u8]) -> bool
     ensures { result ≡ both_ways rights.now }
 {
-    // A while: of `chunks_exact(2).any(..)` the proof did not close, since no clause gives the pairs as a list.
-    let mut rest = rights;
-    while let [right, left, others @ ..] = rest {
-        if 0 < *right && 0 < *left {
-            return true;
-        }
-        rest = others;
-    }
-    false
+    let (strips, _) = rights.as_chunks::<2>();
+    strips.iter().any(|strip| 0 < strip[0] && 0 < strip[1])
 }
 
 // Writes the text of counts, or refuses with 16.
