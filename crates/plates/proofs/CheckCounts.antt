@@ -1,61 +1,55 @@
--- The check's number of a readable shape file, from what the steps give that read, judge and count it. Assumes nothing.
-use mathlib.Core.Path.{◌≡◌, ap, ◌∙◌}
-use mathlib.Core.Bool.{Bool, true, false}
+-- The check's number of a shape file that was read, from what the steps give that judge and count it, and its verdict. Assumes nothing.
+use mathlib.Core.Path.{◌≡◌, refl, sym, ap, ap₂, subst, ◌∙◌}
+use mathlib.Core.Bool.{Bool, true, false, ◌&&◌}
 use mathlib.Core.List.{List}
 use Prim.Native.Nat.{ℕ}
-use lib.Dec.{lit<}
 use lib.ListN.{length}
-use Rattle.fields.specs.Says.{bytes_of}
-use Rattle.fields.specs.declared.Fields.{Fields}
-use Rattle.embedding.specs.Read.{Stands}
-use Rattle.embedding.specs.declared.Plate.{Plate as Held}
-use Rattle.shapes.specs.Claims.{Accepted, Standing}
+use Rattle.embedding.specs.Read.{meant}
 use Rattle.shapes.specs.Judge.{judgement}
-use Rattle.plates.specs.Plates.{Plate}
-use Rattle.plates.specs.Shapes.{total, pair_sums, all_within}
-use Rattle.plates.specs.Files.{content_of, walk_all, plate_of, limits_of}
-use Rattle.plates.specs.Says.{word, angles_in, rights_in, check_fault}
-use Rattle.plates.specs.Read.{Readable}
-use Rattle.plates.proofs.HeldLists.{walked_content}
-use Rattle.plates.proofs.CheckSound.{judged_fault, total_fault, limit_fault, no_counts_fault}
-use Rattle.plates.proofs.Calls.{read_stands}
+use Rattle.plates.specs.Plates.{darts}
+use Rattle.plates.specs.Shapes.{total, same, pair_sums, all_within}
+use Rattle.plates.specs.Files.{plate_of, limits_of}
+use Rattle.plates.specs.Claims.{BestCounts}
+use Rattle.plates.specs.Answers.{verdict}
+use Rattle.plates.specs.Says.{word, angles_in, rights_in, check_fault, CheckWith, CheckSays}
+use Rattle.plates.specs.declared.reading.ShapeFile.{ShapeFile}
+use Rattle.plates.proofs.HeldLists.{list_darts}
+use Rattle.plates.proofs.CheckSound.{file_many, judged_fault, total_fault, limit_fault, no_counts_fault}
 
-module _ {s : List ℕ} {f : Fields} {q : Held} {t : List ℕ} {g : Fields} (r : Readable s f q t g) {a x : List ℕ} (angles : a ≡ bytes_of t g 2) (rights : x ≡ bytes_of t g 3) where
-  angles_are : a ≡ angles_in t
-  angles_are = angles ∙ walked_content r.fields 2 (lit< tt)
+module _ (f : ShapeFile) where
+  abbrev s : List ℕ
+  s = f.list.bytes.now
 
-  rights_are : x ≡ rights_in t
-  rights_are = rights ∙ walked_content r.fields 3 (lit< tt)
+  abbrev t : List ℕ
+  t = f.bytes.now
 
-  abbrev Counted : Type 0
-  Counted = (length a ≡ q.darts) × (length x ≡ q.darts) × Standing q
+  pub counts_many : length f.counts.angles.now ≡ f.list.plate.darts
+  counts_many = ap length f.angles ∙ (file_many s t f.accepted).0 ∙ sym (list_darts f.list)
 
-  pub counted : Counted
-  counted = (ap length angles_are ∙ r.angles_many, ap length rights_are ∙ r.rights_many, read_stands r)
-
-  module _ {j : ℕ} (judged : (p : Plate) → Stands q p → Accepted p → j ≡ judgement p a x) where
+  module _ {j : ℕ} (judged : j ≡ judgement (meant f.list.plate) f.counts.angles.now f.counts.rights.now) where
     number_is : j ≡ judgement (plate_of s) (angles_in t) (rights_in t)
-    number_is = judged (plate_of s) r.plate r.accepted ∙ (λ i. judgement (plate_of s) (angles_are i) (rights_are i))
+    number_is = judged ∙ (λ i. judgement (f.list.table i) (f.angles i) (f.rights i))
 
     pub file_judged : (j ≡ 0 → ⊥) → j ≡ check_fault s t
-    file_judged = judged_fault s t r.no_fault r.no_file_fault number_is
+    file_judged = judged_fault s t f.list.accepted f.accepted number_is
 
-    module _ (z : j ≡ 0) {n k : ℕ} (said : n ≡ word (bytes_of t g 1)) (sum : k ≡ total x) where
-      said_is : n ≡ word (content_of 18 (walk_all true t).fields)
-      said_is = said ∙ ap word (walked_content r.fields 1 (lit< tt))
-
-      sum_is : k ≡ total (rights_in t)
-      sum_is = sum ∙ ap total rights_are
-
+    module _ (z : j ≡ 0) {n k : ℕ} (said : n ≡ word f.total.now) (sum : k ≡ total f.counts.rights.now) where
       pub file_total : (n ≡ k → ⊥) → 22 ≡ check_fault s t
-      file_total = total_fault s t r.no_fault r.no_file_fault number_is z said_is sum_is
+      file_total = total_fault s t f.list.accepted f.accepted number_is z (said ∙ ap word f.total_said) (sum ∙ ap total f.rights)
 
-      module _ (y : n ≡ k) {ls : List ℕ} (limits : ls ≡ bytes_of s f 6) {w : Bool} (within : w ≡ all_within ls (pair_sums x)) where
+      module _ (y : n ≡ k) {ls : List ℕ} (limits : ls ≡ limits_of s) {w : Bool} (within : w ≡ all_within ls (pair_sums f.counts.rights.now)) where
         within_is : w ≡ all_within (limits_of s) (pair_sums (rights_in t))
-        within_is = let limits_are = limits ∙ walked_content r.walked 6 (lit< tt) in within ∙ (λ i. all_within (limits_are i) (pair_sums (rights_are i)))
+        within_is = within ∙ (λ i. all_within (limits i) (pair_sums (f.rights i)))
 
         pub file_limits : w ≡ false → 25 ≡ check_fault s t
-        file_limits = limit_fault s t r.no_fault r.no_file_fault number_is z said_is sum_is y within_is
+        file_limits = limit_fault s t f.list.accepted f.accepted number_is z (said ∙ ap word f.total_said) (sum ∙ ap total f.rights) y within_is
 
         pub file_sound : w ≡ true → 0 ≡ check_fault s t
-        file_sound = no_counts_fault s t r.no_fault r.no_file_fault number_is z said_is sum_is y within_is
+        file_sound = no_counts_fault s t f.list.accepted f.accepted number_is z (said ∙ ap word f.total_said) (sum ∙ ap total f.rights) y within_is
+
+  -- a sound file, against the counts of the best shape
+  pub file_verdict : {a x : List ℕ} {n fewest : ℕ} {ours : Bool} → check_fault s t ≡ 0 → BestCounts s a x → n ≡ total f.counts.rights.now → fewest ≡ total x → ours ≡ (same a f.counts.angles.now && same x f.counts.rights.now)
+      → CheckSays s t (verdict 0 n fewest ours)
+  file_verdict {a} {x} {n} {fewest} {ours} e best sum few own =
+      subst (λ (k : ℕ). CheckWith k s t (verdict 0 n fewest ours)) (sym e)
+      (refl, sum ∙ ap total f.rights, (a, x, best.best, best.counts, (few, own ∙ (λ i. same a (f.angles i) && same x (f.rights i)))))

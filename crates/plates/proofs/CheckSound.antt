@@ -4,22 +4,26 @@ use mathlib.Core.Bool.{Bool, true, false, ◌&&◌, not}
 use mathlib.Core.List.{List}
 use Prim.Native.Nat.{ℕ, zero, suc, ◌≤◌}
 use native.Mathlib.Omega.{arith}
-use lib.Dec.{eqb, lit<}
+use lib.Dec.{eqb}
 use lib.ListN.{length}
-use borrow.Author.Tests.{eq-eqb, ne_eqb, leb-true}
-use Rattle.finite.proofs.Tests.{and_right, first_some, first_assoc}
-use Rattle.fields.specs.Says.{bytes_of}
-use Rattle.fields.specs.declared.Fields.{Fields}
+use borrow.Author.Tests.{eqb-true, eq-eqb, ne_eqb, not-false}
+use Rattle.finite.proofs.Tests.{and_left, and_right, first_none, first_some, first_assoc, when_none}
 use Rattle.plates.specs.Plates.{first_of, when, darts, faces}
 use Rattle.plates.specs.Shapes.{total, same, angles_ok, posts_ok, faces_ok, pair_sums, all_within, shape_of}
 use Rattle.plates.specs.Files.{Field, has_tag, content_of, walk_all, list_fault, plate_of, limits_of}
 use Rattle.plates.specs.Says.{word, angles_in, rights_in, check_fault, CheckWith, CheckSays}
-use Rattle.plates.specs.Read.{WalkedFile, shape_file_fault}
+use Rattle.plates.specs.Answers.{verdict}
+use Rattle.plates.specs.Read.{shape_file_fault}
 use Rattle.shapes.specs.Judge.{judgement}
-use Rattle.plates.specs.Checks.{refused_verdict, Compared}
-use Rattle.fields.proofs.Laid.{all_laid}
-use Rattle.fields.proofs.Runs.{all_there_lem}
-use Rattle.plates.proofs.HeldLists.{walked_content}
+
+-- a shape file without refusal of its own has an angle and right bends for each dart
+pub file_many : (s t : List ℕ) → shape_file_fault s t ≡ 0 → (length (angles_in t) ≡ darts (plate_of s)) × (length (rights_in t) ≡ darts (plate_of s))
+file_many s t e =
+    let a = eqb (length (angles_in t)) (darts (plate_of s)) in
+    let r = eqb (length (rights_in t)) (darts (plate_of s)) in
+    let later = (first_none (walk_all true t).number _ e).1 in
+    let both : (a && r) ≡ true = not-false (a && r) (when_none (not (a && r)) 16 (first_none (when (not (a && r)) 17) _ later).0) in
+    (eqb-true _ _ (and_left a r both), eqb-true _ _ (and_right a r both))
 
 -- places in turn: the list, the shape file, the verdict
 module _ (s t : List ℕ) where
@@ -52,18 +56,18 @@ module _ (s t : List ℕ) where
       ∙ first_assoc e1 (first_of e17 e18) judged_then
       )
 
-  refused_with : (e : ℕ) → (e ≡ 0 → ⊥) → CheckWith e s t (refused_verdict e)
+  refused_with : (e : ℕ) → (e ≡ 0 → ⊥) → CheckWith e s t (verdict e 0 0 false)
   refused_with zero n = absurd (n refl)
   refused_with (suc e) n = (refl, refl, refl, refl)
 
-  pub refused_check : (e : ℕ) → check_fault s t ≡ e → (e ≡ 0 → ⊥) → CheckSays s t (refused_verdict e)
-  refused_check e q n = subst (λ (k : ℕ). CheckWith k s t (refused_verdict e)) (sym q) (refused_with e n)
+  pub refused_check : (e : ℕ) → check_fault s t ≡ e → (e ≡ 0 → ⊥) → CheckSays s t (verdict e 0 0 false)
+  refused_check e q n = subst (λ (k : ℕ). CheckWith k s t (verdict e 0 0 false)) (sym q) (refused_with e n)
 
-  pub list_refused_check : (e : ℕ) → e ≡ list_fault s → (e ≡ 0 → ⊥) → CheckSays s t (refused_verdict e)
+  pub list_refused_check : (e : ℕ) → e ≡ list_fault s → (e ≡ 0 → ⊥) → CheckSays s t (verdict e 0 0 false)
   list_refused_check e q n = refused_check e (places ∙ first_some (list_fault s) _ (λ z. n (q ∙ z)) ∙ sym q) n
 
   module _ (none : list_fault s ≡ 0) where
-    pub file_refused_check : (e : ℕ) → e ≡ shape_file_fault s t → (e ≡ 0 → ⊥) → CheckSays s t (refused_verdict e)
+    pub file_refused_check : (e : ℕ) → e ≡ shape_file_fault s t → (e ≡ 0 → ⊥) → CheckSays s t (verdict e 0 0 false)
     file_refused_check e q n =
         refused_check e (places ∙ ap (λ (k : ℕ). first_of k (first_of (shape_file_fault s t) judged_then)) none ∙ first_some (shape_file_fault s t) judged_then (λ z. n (q ∙ z)) ∙ sym q) n
 
@@ -94,29 +98,3 @@ module _ (s t : List ℕ) where
 
             pub no_counts_fault : w ≡ true → 0 ≡ check_fault s t
             no_counts_fault f = sym (after_total ∙ ap (λ (b : Bool). when (not b) 25) f)
-
--- the same from slots
-module _ {t : List ℕ} {g : Fields} (w : WalkedFile true t g) where
-  abbrev us : List Field
-  us = (walk_all true t).fields
-
-  there_20 : has_tag 20 us ≡ true
-  there_20 =
-      let e1 = all_there_lem true true t w.passed in
-      let e2 = and_right (has_tag 17 us) (has_tag 18 us && (has_tag 19 us && has_tag 20 us)) e1 in
-      let e3 = and_right (has_tag 18 us) (has_tag 19 us && has_tag 20 us) e2 in
-      and_right (has_tag 19 us) (has_tag 20 us) e3
-
-  pub rights_few : (r : List ℕ) → r ≡ bytes_of t g 3 → length r ≤ 256
-  rights_few r e = omega (arith, ap length (e ∙ walked_content w 3 (lit< tt)), leb-true (length (content_of 20 us)) 256 (all_laid true true t 20 there_20))
-
-  pub verdict_read : (fewest : ℕ) (a x b r : List ℕ) (k : ℕ) (i j ij : Bool) → b ≡ bytes_of t g 2 → r ≡ bytes_of t g 3 → k ≡ total r
-      → i ≡ same a b → j ≡ same x r → ij ≡ (i && j) → (s : List ℕ) → Compared s t a x fewest → CheckSays s t (record { number = 0; total = k; fewest = fewest; ours = ij })
-  verdict_read fewest a x b r k i j ij angles rights counted i-is j-is ij-is s h =
-      let angles_are : b ≡ angles_in t = angles ∙ walked_content w 2 (lit< tt) in
-      let rights_are : r ≡ rights_in t = rights ∙ walked_content w 3 (lit< tt) in
-      let i-same : i ≡ same a (angles_in t) = i-is ∙ ap (same a) angles_are in
-      let j-same : j ≡ same x (rights_in t) = j-is ∙ ap (same x) rights_are in
-      let both : ij ≡ (same a (angles_in t) && same x (rights_in t)) = ij-is ∙ (λ n. i-same n && j-same n) in
-      subst (λ (n : ℕ). CheckWith n s t (record { number = 0; total = k; fewest = fewest; ours = ij })) (sym h.sound)
-      (refl, counted ∙ ap total rights_are, (a, x, h.best.best, h.best.counts, (h.best.sum, both)))

@@ -18,7 +18,7 @@ use Rattle.embedding.proofs.Degrees.{darts_few}
 use Rattle.embedding.proofs.Editing.{accepted_ordered}
 use Rattle.embedding.proofs.Faultless.{faultless}
 use Rattle.embedding.proofs.Replays.{editing}
-use Rattle.plates.specs.declared.Listed.{Listed}
+use Rattle.plates.specs.Answers.{Listed}
 use Rattle.plates.specs.Plates.{pick, first_of, when, Plate, darts, strips, ends_at, plate_fault}
 use Rattle.plates.specs.Files.{Field, Walk, walk, has_tag, content_of, walk_all, fault_from, limits_fault, list_fault, plate_in, plate_of, limits_of}
 use Rattle.plates.specs.Ordering.{bytes_in}

@@ -18,7 +18,6 @@ pub mod Decimals
 pub mod OneAnswer
 pub mod Shaping
 pub mod CheckLaws
-pub mod ShapeReads
 pub mod CheckSound
 pub mod CheckCounts
 pub mod ListingSaid

@@ -18,16 +18,13 @@ use Rattle.shapes.proofs.Tamassia.{two_to_a_strip}
 use Rattle.shapes.proofs.Strips.{free_within}
 use Rattle.shapes.proofs.Unpriced.{each_strip, free_best, best_free}
 use Rattle.shapes.proofs.Tried.{loop_best}
-use Rattle.plates.specs.declared.Shaped.{Shaped}
-use Rattle.plates.specs.declared.Verdict.{Verdict}
-use Rattle.plates.specs.declared.Listed.{Listed}
 use Rattle.plates.specs.Plates.{Plate, pick_t, first_of, when, strips, plate_fault}
 use Rattle.plates.specs.Shapes.{Shape, bends, rights_of, total, pair_sums, all_within, all_free, shape_of}
 use Rattle.plates.specs.Files.{Walk, has_tag, walk_all, limits_fit, limits_fault, list_fault, plate_of, limits_of, file_bytes, shape_bytes}
 use Rattle.plates.specs.Claims.{Best, BestOf, SomeWithin, NoneWithin, HasBest}
 use Rattle.plates.specs.Says.{over, file_long, rights_in, NoneKeeps, shape_fault, file_fault_by, check_fault, ShapeWith, ShapeSays, CheckWith, CheckSays}
 use Rattle.plates.specs.Listing.{refused_text, Gives, ListingWith, ListingSays}
-use Rattle.plates.specs.Answers.{shaped}
+use Rattle.plates.specs.Answers.{Shaped, Verdict, Listed, shaped}
 use Rattle.plates.specs.Ordering.{SameBesides}
 use Rattle.plates.specs.Limits.{walk_fault, six_walk, comes_to, ShapeBy, ShapeFrom, CheckBy, CheckFrom, ListingBy, ListingFrom, AsUnlimited, limited_loop, OneLimit, Limits}
 use Rattle.plates.proofs.Contents.{plate_by, copied_by}

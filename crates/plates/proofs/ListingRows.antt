@@ -9,11 +9,11 @@ use lib.ListN.{length, get_or, set, length-append}
 use borrow.Author.Tests.{lt-ltb, le-ltb}
 use Rattle.fields.specs.Writing.{put_at, Written}
 use Rattle.fields.proofs.Puts.{put_front, written_none, written_then}
-use Rattle.plates.specs.declared.Listed.{Listed}
+use Rattle.plates.specs.Answers.{Listed}
 use Rattle.plates.specs.Plates.{pick_t}
 use Rattle.plates.specs.Shapes.{total}
 use Rattle.plates.specs.Says.{over}
-use Rattle.plates.specs.Listing.{decimal, numbered, line, revision_word, bends_word, dart_word, right_word, angle_word, dart_line, dart_lines, listing_text, TextWritten, LinesRoom, ListingRoom, Gives}
+use Rattle.plates.specs.Listing.{decimal, numbered, line, revision_word, bends_word, dart_word, right_word, angle_word, dart_line, dart_lines, listing_text, TextWritten, LinesRoom, Gives}
 use Rattle.plates.proofs.ListingText.{byte_written}
 
 -- lengths
@@ -99,14 +99,14 @@ listing_long v a r =
       length-append (line bends_word (total r)) (dart_lines (length r) a r),
     )
 
-pub listing_written : {v n m k end room : ℕ} {a r out o1 o2 o3 : List ℕ} → ListingRoom v n a r room → length out ≡ room
-    → Written 0 (line revision_word v) out o1 m → length o1 ≡ length out → Written m (line bends_word n) o1 o2 k → Written k (dart_lines (length r) a r) o2 o3 end → length o2 ≡ length o1
+pub listing_written : (v : ℕ) (a r : List ℕ) {n m k end : ℕ} {out o1 o2 o3 : List ℕ} → length (listing_text v a r) ≤ length out → n ≡ total r
+    → Written 0 (line revision_word v) out o1 m → length o1 ≡ length out → Written m (line bends_word n) o1 o2 k → Written k (dart_lines (length r) a r) o2 o3 end
     → TextWritten (listing_text v a r) out o3 end
-listing_written {v} {n} {m} {k} {end} {room} {a} {r} {out} {o1} {o2} {o3} h l w1 l1 w2 w3 l2 =
-    let w2' : Written m (line bends_word (total r)) o1 o2 k = subst (λ (t : ℕ). Written m (line bends_word t) o1 o2 k) h.sum w2 in
+listing_written v a r {n} {m} {k} {end} {out} {o1} {o2} {o3} h sum w1 l1 w2 w3 =
+    let w2' : Written m (line bends_word (total r)) o1 o2 k = subst (λ (t : ℕ). Written m (line bends_word t) o1 o2 k) sum w2 in
     text_written (
     written_then (omega arith) w1
-    (written_then (omega (arith, w1.behind, h.enough, listing_long v a r)) w2' w3)
+    (written_then (omega (arith, w1.behind, h, listing_long v a r)) w2' w3)
     )
 
 -- a text given, or 16

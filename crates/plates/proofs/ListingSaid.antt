@@ -4,23 +4,18 @@ use mathlib.Core.Bool.{true, false}
 use mathlib.Core.List.{List}
 use Prim.Native.Nat.{ℕ, zero, suc, ◌≤◌, ◌<◌}
 use native.Mathlib.Omega.{arith}
-use lib.Dec.{ltb, lit<}
+use lib.Dec.{ltb}
 use lib.ListN.{length, get_or, take, drop}
 use lib.Seq.{take_at, length-take-le}
 use borrow.Author.Tests.{lt-ltb}
 use Rattle.finite.proofs.Tests.{each_over}
-use Rattle.fields.specs.Says.{bytes_of}
-use Rattle.fields.specs.declared.Fields.{Fields}
-use Rattle.plates.specs.declared.Listed.{Listed}
+use Rattle.plates.specs.Answers.{Listed}
 use Rattle.plates.specs.Plates.{first_of}
 use Rattle.plates.specs.Files.{content_of, walk_all, list_fault, plate_of}
 use Rattle.plates.specs.Shapes.{shape_of}
-use Rattle.plates.specs.Claims.{NoneWithin}
+use Rattle.plates.specs.Claims.{BestCounts, NoneWithin}
 use Rattle.plates.specs.Says.{word, all_bytes}
-use Rattle.plates.specs.Encodes.{BestGiven}
-use Rattle.plates.specs.Listing.{listing_text, refused_text, TextWritten, ListingRoom, Gives, ListingWith, ListingSays}
-use Rattle.plates.proofs.HeldLists.{walked_content}
-use Rattle.plates.proofs.ReadsBack.{angles_many, rights_many}
+use Rattle.plates.specs.Listing.{listing_text, refused_text, TextWritten, Gives, ListingWith, ListingSays}
 use Rattle.plates.proofs.ListingShort.{listing_short}
 
 pub all-bytes : (s : List ℕ) → ((i : ℕ) → get_or s i 0 < 256) → all_bytes s ≡ true
@@ -40,26 +35,16 @@ module _ (t : List ℕ) {buf held : List ℕ} {n : ℕ} (w : TextWritten t buf h
 pub cut_long : (n : ℕ) (held : List ℕ) → n ≤ length held → n ≡ length (take n held)
 cut_long n held h = sym (length-take-le n held h)
 
-module _ {s : List ℕ} {f : Fields} {a r : List ℕ} {n : ℕ} (g : BestGiven s f a r n) (v : ℕ) (revision : v ≡ word (bytes_of s f 0)) where
-  revision_is : v ≡ word (content_of 1 (walk_all false s).fields)
-  revision_is = revision ∙ ap word (walked_content g.walked 0 (lit< tt))
-
-  pub listing_most : all_bytes s ≡ true → length (listing_text v a r) ≤ 6939
-  listing_most bytes = subst (λ (x : ℕ). length (listing_text x a r) ≤ 6939) (sym revision_is) (listing_short s a r g.no_fault bytes g.best g.counts)
-
-  pub listing_room : all_bytes s ≡ true → ListingRoom v n a r 6939
-  listing_room bytes = record {
-    same_long = angles_many s a r g.no_fault g.best.meets_all g.counts ∙ sym (rights_many s a r g.no_fault g.best.meets_all g.counts);
-    sum = g.sum;
-    enough = listing_most bytes;
-  }
+module _ {s a r : List ℕ} (e : list_fault s ≡ 0) (g : BestCounts s a r) (v : ℕ) (revision : v ≡ word (content_of 1 (walk_all false s).fields)) where
+  pub listing_room : all_bytes s ≡ true → length (listing_text v a r) ≤ 6939
+  listing_room bytes = subst (λ (x : ℕ). length (listing_text x a r) ≤ 6939) (sym revision) (listing_short s a r e bytes g.best g.counts)
 
   pub listing_said : (o o' : List ℕ) (q : Listed) → Gives (listing_text v a r) o o' q → ListingSays s o o' q
   listing_said o o' q h = (
     false,
     (λ z. (shape_of (plate_of s) a r, g.best.meets_all, g.best.keeps_all)),
-    subst (λ (k : ℕ). ListingWith (first_of k 0) s o o' q) (sym g.no_fault)
-        (a, r, g.best, g.counts, subst (λ (x : ℕ). Gives (listing_text x a r) o o' q) revision_is h),
+    subst (λ (k : ℕ). ListingWith (first_of k 0) s o o' q) (sym e)
+        (a, r, g.best, g.counts, subst (λ (x : ℕ). Gives (listing_text x a r) o o' q) revision h),
   )
 
 pub refused_said : (e : ℕ) (s o o' : List ℕ) (q : Listed) → e ≡ list_fault s → (e ≡ 0 → ⊥) → Gives (refused_text e) o o' q → ListingSays s o o' q

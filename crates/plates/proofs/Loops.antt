@@ -11,14 +11,13 @@ use Rattle.embedding.proofs.Loops as Plates
 use Rattle.shapes.proofs.Accepted.{faultless, ordered}
 use Rattle.shapes.proofs.Tried.{loop_best}
 use Rattle.shapes.proofs.Unpriced.{best_free}
-use Rattle.plates.specs.declared.Shaped.{Shaped}
 use Rattle.plates.specs.Plates.{first_of, when, darts, faces, plate_fault}
 use Rattle.plates.specs.Shapes.{rights_of, angles_ok, posts_ok, faces_ok, total, pair_sums, all_within, all_free, shape_of}
 use Rattle.plates.specs.Files.{walk_all, content_of, limits_fault, list_fault, plate_of, limits_of, shape_bytes}
 use Rattle.plates.specs.Claims.{BestOf}
 use Rattle.plates.specs.Says.{over, word, angles_in, rights_in, file_long, shape_fault, file_fault, check_fault, ShapeWith, CheckWith}
 use Rattle.plates.specs.Listing.{ListingWith}
-use Rattle.plates.specs.Answers.{shaped}
+use Rattle.plates.specs.Answers.{Shaped, shaped}
 use Rattle.plates.specs.Loops.{plate_fault_before, list_fault_before, ShapeSaysBefore, AsBefore, Kept, loop_list, OneLoop, ToItself}
 use Rattle.plates.proofs.Lists.{list_accepted, list_demands, file_number, list_number}
 use Rattle.plates.proofs.OneAnswer.{shape_only, written_only, check_only, listing_only}

@@ -6,16 +6,13 @@ use Prim.Native.Nat.{ℕ, zero, suc, ◌≤◌}
 use borrow.Author.Tests.{le-ltb}
 use lib.Dec.{ltb}
 use lib.ListN.{length}
-use Rattle.plates.specs.declared.Shaped.{Shaped}
-use Rattle.plates.specs.declared.Verdict.{Verdict}
-use Rattle.plates.specs.declared.Listed.{Listed}
 use Rattle.plates.specs.Plates.{pick_t, first_of, when}
 use Rattle.plates.specs.Shapes.{rights_of, total, same, shape_of}
 use Rattle.plates.specs.Files.{walk_all, content_of, list_fault, plate_of, limits_of, shape_bytes}
 use Rattle.plates.specs.Claims.{BestOf, NoneWithin, SomeWithin}
 use Rattle.plates.specs.Says.{over, word, angles_in, rights_in, file_long, NoneKeeps, shape_fault, check_fault, ShapeWith, ShapeSays, CheckWith, CheckSays}
 use Rattle.plates.specs.Listing.{listing_text, refused_text, Gives, listing_fault, ListingWith, ListingSays}
-use Rattle.plates.specs.Answers.{shaped}
+use Rattle.plates.specs.Answers.{Shaped, Verdict, Listed, shaped}
 use Rattle.plates.proofs.Verdicts.{same_counts}
 
 -- a test told of an accepted list has one answer, and of a refused one it changes nothing

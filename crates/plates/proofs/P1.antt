@@ -6,12 +6,11 @@ use Prim.Native.Nat.{ℕ, ◌≤◌}
 use lib.ListN.{length}
 use Rattle.shapes.proofs.Tried.{table_best}
 use Rattle.shapes.proofs.Unpriced.{best_free}
-use Rattle.plates.specs.declared.Shaped.{Shaped}
 use Rattle.plates.specs.Shapes.{meets, shape_of}
 use Rattle.plates.specs.Files.{walk_all, list_fault, plate_of, shape_bytes}
 use Rattle.plates.specs.Claims.{Best}
 use Rattle.plates.specs.Says.{over, check_fault, file_long, ShapeSays}
-use Rattle.plates.specs.Answers.{shaped}
+use Rattle.plates.specs.Answers.{Shaped, shaped}
 use Rattle.plates.proofs.OneAnswer.{written_only}
 
 abbrev list : List ℕ

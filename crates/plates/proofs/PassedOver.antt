@@ -8,9 +8,7 @@ use native.Mathlib.Omega.{arith}
 use lib.Dec.{eqb, ltb}
 use lib.ListN.{length}
 use Rattle.fields.proofs.FrontField.{met_field}
-use Rattle.plates.specs.declared.Shaped.{Shaped}
-use Rattle.plates.specs.declared.Verdict.{Verdict}
-use Rattle.plates.specs.declared.Listed.{Listed}
+use Rattle.plates.specs.Answers.{Shaped, Verdict, Listed}
 use Rattle.plates.specs.Plates.{pick, pick_t, first_of, when, darts, strips, plate_fault}
 use Rattle.plates.specs.Shapes.{Shape, meets, rights_of, total, same, pair_sums, strip_bends, all_within, shape_of}
 use Rattle.plates.specs.Files.{Field, Walk, walk, content_of, walk_all, plate_in, list_fault, plate_of, limits_of, file_bytes, shape_bytes}

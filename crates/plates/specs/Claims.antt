@@ -20,6 +20,11 @@ NoneWithin b = (u : Shape) → meets (plate_of b) u ≡ true → all_within (lim
 abbrev pub HasBest : List ℕ → Type 0
 HasBest b = (a : List ℕ) × (r : List ℕ) × BestOf b (shape_of (plate_of b) a r) × (rights_of (shape_of (plate_of b) a r).words ≡ r)
 
+-- the counts of the best shape
+pub record BestCounts (b a r : List ℕ) : Type 0 where
+  pub best : BestOf b (shape_of (plate_of b) a r)
+  pub counts : rights_of (shape_of (plate_of b) a r).words ≡ r
+
 -- each accepted list without limits has one, one with limits exactly where some shape keeps them, and it is the only one
 pub record Demand3 : Type 0 where
   pub some_best : (b : List ℕ) → list_fault b ≡ 0 → all_free (limits_of b) ≡ true → HasBest b

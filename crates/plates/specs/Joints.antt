@@ -1,12 +1,11 @@
 -- A straight post stays straight, over lists: the best shape in the words of the request, which shapes stay the best, and P6.
 use Rattle.std.specs.Prelude.{◌≡◌, true, List, [], ◌∷◌, ◌↔◌, ℕ, ◌≤◌, ◌<◌, length}
-use Rattle.plates.specs.declared.Shaped.{Shaped}
 use Rattle.plates.specs.Plates.{degree}
 use Rattle.plates.specs.Shapes.{Shape, meets, bends, cornered, shape_of}
 use Rattle.plates.specs.Files.{list_fault, plate_of, limits_of}
 use Rattle.plates.specs.Claims.{Best, BestOf}
 use Rattle.plates.specs.Says.{over, ShapeSays}
-use Rattle.plates.specs.Answers.{shaped}
+use Rattle.plates.specs.Answers.{Shaped, shaped}
 pub use Rattle.shapes.specs.Joints.{plain_first, PlainBest, NoneStraighter, Straightest}
 
 -- P6 with revision 7: two strips that meet at post 1; its shape without bends, straight there, and the one with a corner there

@@ -1,6 +1,6 @@
 -- The editor's journal over lists: the list after a step, what the calls that take one step promise, and what a replay leaves.
 use Rattle.std.specs.Prelude.{◌≡◌, false, List, [], ◌∷◌, ◌++◌, ℕ, zero, suc, ◌≤◌, ◌<◌, eqb, length, get_or}
-use Rattle.plates.specs.declared.Listed.{Listed}
+use Rattle.plates.specs.Answers.{Listed}
 use Rattle.plates.specs.Plates.{pick, first_of, Plate, strips}
 use Rattle.plates.specs.Files.{Field, has_tag, content_of, walk, walk_all, list_fault, plate_in, plate_of, limits_of}
 use Rattle.plates.specs.Listing.{Gives}

@@ -7,7 +7,6 @@ pub mod Claims
 pub mod Says
 pub mod Read
 pub mod Encodes
-pub mod Checks
 pub mod Listing
 pub mod Answers
 pub mod Ordering

@@ -1,15 +1,12 @@
 -- Limits of bends by strip, over lists: what it is to keep them, when shaping refuses with 24, and lists without field 07, which are answered as before request E2.
 use Rattle.std.specs.Prelude.{◌≡◌, true, false, ◌&&◌, List, [], ◌∷◌, ◌↔◌, ◌⊎◌, ℕ, zero, suc, ◌+◌, ◌≤◌, ◌<◌, ltb, length, get_or}
-use Rattle.plates.specs.declared.Shaped.{Shaped}
-use Rattle.plates.specs.declared.Verdict.{Verdict}
-use Rattle.plates.specs.declared.Listed.{Listed}
 use Rattle.plates.specs.Plates.{first_of, when, strips, plate_fault}
 use Rattle.plates.specs.Shapes.{Shape, rights, lefts, nth_w, meets, rights_of, total, same, strip_bends, all_within, all_free, shape_of}
 use Rattle.plates.specs.Files.{Field, Walk, has_tag, content_of, walk_all, list_fault, plate_in, plate_of, limits_of, shape_bytes}
 use Rattle.plates.specs.Claims.{Best, BestOf, SomeWithin, NoneWithin, HasBest}
 use Rattle.plates.specs.Says.{over, word, file_long_in, angles_in, rights_in, file_fault_by, check_fault, ShapeSays, CheckSays}
 use Rattle.plates.specs.Listing.{refused_text, listing_text, Gives, ListingSays}
-use Rattle.plates.specs.Answers.{shaped}
+use Rattle.plates.specs.Answers.{Shaped, Verdict, Listed, shaped}
 use Rattle.plates.specs.Ordering.{SameBesides}
 pub use Rattle.fields.specs.Unlimited.{six_tag, six_long, six_fault, six_walk, six_bytes, SixOrdered, comes_from, comes_to, SixTags}
 

@@ -1,6 +1,6 @@
 -- The listing: "refused N", or the revision, the bends and a line for each dart, in ASCII codes.
 use Rattle.std.specs.Prelude.{◌≡◌, Bool, true, false, List, [], ◌∷◌, ◌++◌, ℕ, zero, suc, ◌+◌, ◌-◌, ◌*◌, ◌/◌, ◌%◌, ◌≤◌, ◌<◌, ltb, length, get_or}
-use Rattle.plates.specs.declared.Listed.{Listed}
+use Rattle.plates.specs.Answers.{Listed}
 use Rattle.plates.specs.Plates.{pick, pick_t, first_of, when}
 use Rattle.plates.specs.Shapes.{total, rights_of, shape_of}
 use Rattle.plates.specs.Files.{content_of, walk_all, list_fault, plate_of}
@@ -83,15 +83,10 @@ pub record TextWritten (t out out' : List ℕ) (n : ℕ) : Type 0 where
   pub bytes : out' ≡ over t out
   pub long : n ≡ length t
 
--- room for the darts' lines from a place on, and for a whole listing
+-- room for the darts' lines from a place on
 pub record LinesRoom (a r : List ℕ) (at room : ℕ) : Type 0 where
   pub same_long : length a ≡ length r
   pub enough : at + length (dart_lines (length r) a r) ≤ room
-
-pub record ListingRoom (v n : ℕ) (a r : List ℕ) (room : ℕ) : Type 0 where
-  pub same_long : length a ≡ length r
-  pub sum : n ≡ total r
-  pub enough : length (listing_text v a r) ≤ room
 
 -- a text given: it stands at the front of the lent memory, or the memory is too short for it and stays as it is
 abbrev pub Gives : List ℕ → List ℕ → List ℕ → Listed → Type 0

@@ -1,15 +1,12 @@
 -- Strips from a post to itself: their places and faces, and the plate with one post and one strip; 10 is never given, every list that was not refused with 10 is answered as before, and accepted lists keep their shapes.
 use Rattle.std.specs.Prelude.{◌≡◌, Bool, true, false, List, [], ◌∷◌, ℕ, ◌+◌, ◌≤◌, ◌<◌, ltb, length}
-use Rattle.plates.specs.declared.Shaped.{Shaped}
-use Rattle.plates.specs.declared.Verdict.{Verdict}
-use Rattle.plates.specs.declared.Listed.{Listed}
 use Rattle.plates.specs.Plates.{first_of, when, darts, leaves, ends_at, degree_from, after, face_of}
 use Rattle.plates.specs.Shapes.{Shape, all_free, shape_of}
 use Rattle.plates.specs.Files.{walk_all, fault_from, list_fault, plate_of, limits_of}
 use Rattle.plates.specs.Claims.{Best}
 use Rattle.plates.specs.Says.{over, file_long, BestBytes, NoneKeeps, shape_fault, file_fault, check_fault, ShapeWith, ShapeSays, CheckWith, CheckSays}
 use Rattle.plates.specs.Listing.{ListingWith, ListingSays}
-use Rattle.plates.specs.Answers.{shaped}
+use Rattle.plates.specs.Answers.{Shaped, Verdict, Listed, shaped}
 pub use Rattle.embedding.specs.Loops.{some_loop, plate_fault_before, TwoPlaces}
 
 -- the numbers of a list, of shaping and of checking with 10 in its place, as before such strips were accepted

@@ -1,8 +1,6 @@
 -- Remarks, fields 06 of plate lists and 15 of shape files, over the calls: they are read and passed over, and no shape file is written with one.
 use Rattle.std.specs.Prelude.{◌≡◌, true, false, List, [], ◌++◌, ◌↔◌, ℕ, ◌+◌, ◌*◌, length, take}
-use Rattle.plates.specs.declared.Shaped.{Shaped}
-use Rattle.plates.specs.declared.Verdict.{Verdict}
-use Rattle.plates.specs.declared.Listed.{Listed}
+use Rattle.plates.specs.Answers.{Shaped, Verdict, Listed}
 use Rattle.plates.specs.Plates.{pick, strips}
 use Rattle.plates.specs.Shapes.{rights_of, shape_of}
 use Rattle.plates.specs.Files.{Field, has_tag, content_of, walk_all, old_walk, field, list_fault, plate_of, shape_bytes}

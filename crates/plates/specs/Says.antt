@@ -1,11 +1,10 @@
 -- What the public calls promise.
 use Rattle.std.specs.Prelude.{◌≡◌, ◌↔◌, Bool, true, false, ◌&&◌, not, List, ℕ, zero, suc, ◌+◌, ◌*◌, ◌≤◌, eqb, ltb, length, take}
-use Rattle.plates.specs.declared.Shaped as DS
-use Rattle.plates.specs.declared.Verdict as DV
 use Rattle.plates.specs.Plates.{pick_t, first_of, when, darts, strips, faces}
 use Rattle.plates.specs.Shapes.{meets, angles_ok, posts_ok, faces_ok, bends, total, same, rights_of, pair_sums, strip_bends, all_within, shape_of}
 use Rattle.plates.specs.Files.{Field, Walk, content_of, walk_all, list_fault, plate_in, plate_of, limits_of, shape_bytes}
 use Rattle.plates.specs.Claims as C
+use Rattle.plates.specs.Answers.{Shaped, Verdict}
 pub use Rattle.fields.specs.Says.{word}
 pub use Rattle.fields.specs.Writing.{over, all_bytes}
 
@@ -30,11 +29,11 @@ BestBytes s f =
     let p = plate_of s in
     (a : List ℕ) × (r : List ℕ) × C.BestOf s (shape_of p a r) × (rights_of (shape_of p a r).words ≡ r) × f a r (shape_bytes (walk_all false s).fields (shape_of p a r))
 
-abbrev pub ShapeWith : ℕ → List ℕ → List ℕ → List ℕ → DS.Shaped → Type 0
+abbrev pub ShapeWith : ℕ → List ℕ → List ℕ → List ℕ → Shaped → Type 0
 ShapeWith zero s o o' r = (r.number ≡ 0) × BestBytes s (λ a x b. (r.long ≡ length b) × (r.bends ≡ total x) × (o' ≡ over b o))
 ShapeWith (suc f) s o o' r = (r.number ≡ suc f) × (r.long ≡ 0) × (r.bends ≡ 0) × (o' ≡ o)
 
-abbrev pub ShapeSays : List ℕ → List ℕ → List ℕ → DS.Shaped → Type 0
+abbrev pub ShapeSays : List ℕ → List ℕ → List ℕ → Shaped → Type 0
 ShapeSays s o o' r = (none : Bool) × NoneKeeps none s × ShapeWith (shape_fault none s o) s o o' r
 
 -- checking: the list's numbers, the shape file's of its walk, 17, 18, then 19 to 22, 25
@@ -66,11 +65,11 @@ abbrev pub check_fault : List ℕ → List ℕ → ℕ
 check_fault s t = first_of (list_fault s) (file_fault s t)
 
 -- a sound verdict: the file's total, the fewest within the limits, whether angles and right bends are those written
-abbrev pub CheckWith : ℕ → List ℕ → List ℕ → DV.Verdict → Type 0
+abbrev pub CheckWith : ℕ → List ℕ → List ℕ → Verdict → Type 0
 CheckWith zero s t r = (r.number ≡ 0) × (r.total ≡ total (rights_in t)) × BestBytes s (λ a x b. (r.fewest ≡ total x) × (r.ours ≡ (same a (angles_in t) && same x (rights_in t))))
 CheckWith (suc f) s t r = (r.number ≡ suc f) × (r.total ≡ 0) × (r.fewest ≡ 0) × (r.ours ≡ false)
 
-abbrev pub CheckSays : List ℕ → List ℕ → DV.Verdict → Type 0
+abbrev pub CheckSays : List ℕ → List ℕ → Verdict → Type 0
 CheckSays s t r = CheckWith (check_fault s t) s t r
 
 -- a written shape is sound for its list and reads back as the same angles and right bends
@@ -110,7 +109,7 @@ SameShape =
 -- the verdict on a written shape: sound, its total the fewest, and ours
 abbrev pub WrittenVerdict : Type 0
 WrittenVerdict =
-    (s a r : List ℕ) (v : DV.Verdict) → list_fault s ≡ 0 → C.BestOf s (shape_of (plate_of s) a r) → rights_of (shape_of (plate_of s) a r).words ≡ r
+    (s a r : List ℕ) (v : Verdict) → list_fault s ≡ 0 → C.BestOf s (shape_of (plate_of s) a r) → rights_of (shape_of (plate_of s) a r).words ≡ r
     → CheckSays s (shape_bytes (walk_all false s).fields (shape_of (plate_of s) a r)) v
     → (v.number ≡ 0) × (v.total ≡ total r) × (v.fewest ≡ total r) × (v.ours ≡ true)
 

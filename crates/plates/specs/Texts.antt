@@ -1,7 +1,6 @@
 -- What the two conversions promise: a shape file to its text, and a text back to a shape file; and what holds of both together.
 use Rattle.std.specs.Prelude.{◌≡◌, Bool, true, false, ◌&&◌, not, List, [], ◌++◌, ℕ, zero, suc, ◌≤◌, ltb, length, take}
-use Rattle.plates.specs.declared.Shaped.{Shaped}
-use Rattle.plates.specs.declared.Listed.{Listed}
+use Rattle.plates.specs.Answers.{Shaped, Listed}
 use Rattle.plates.specs.Plates.{Plate, first_of, when, darts, faces}
 use Rattle.plates.specs.Shapes.{twins_ok_from, posts_ok, faces_ok, rights_of, total, pair_sums, all_within, shape_of}
 use Rattle.plates.specs.Files.{walk_all, list_fault, plate_of, limits_of, file_bytes, shape_bytes}

@@ -1,105 +1,59 @@
 //! The verdict on a shape file, from what is read, judged and shaped.
-ghost use Rattle.std.specs.Prelude.{◌≡◌, true, ◌&&◌, List, ℕ, ◌≤◌, length};
-ghost use Rattle.plates.specs.Shapes.{total, same};
+ghost use Rattle.std.specs.Prelude.{◌≡◌, ◌&&◌, Ok};
+ghost use Rattle.refusals.specs.Numbers.{fault_of};
+ghost use Rattle.plates.specs.Shapes.{same};
 ghost use Rattle.plates.specs.Says.{check_fault, CheckSays};
-ghost use Rattle.plates.specs.Read.{WalkedFile, Readable};
-ghost use Rattle.plates.specs.Checks.{refused_verdict, Compared};
+ghost use Rattle.plates.specs.Answers.{verdict_of};
 
-use crate::Verdict;
-use embedding::Plate;
-use fields::{Fields, content, number_of};
+use crate::reading::ShapeFile;
+use fields::number;
+use refusals::Refusal;
+use shapes::counts::Counts;
 use shapes::judge::judge;
 use shapes::rates::limits_ok;
 
-// The sum of the right bends.
-pub fn total_of(rights: &[u8]) -> u32
-    requires { length rights.now ≤ 256 }
-    ensures { result ≡ total rights.now }
-{
-    let mut sum = 0u32;
-    let mut i = 0;
-    while i < rights.len() {
-        sum += rights[i] as u32;
-        i += 1;
-    }
-    sum
+/// A sound shape file: its total, the fewest within the limits, and whether
+/// its angles and right bends are those that shaping writes.
+#[derive(Clone, Copy, Debug, PartialEq, Eq)]
+pub struct Sound {
+    pub total: u32,
+    pub fewest: u32,
+    pub ours: bool,
 }
 
-// Whether two lists are the same.
-fn is_same(a: &[u8], b: &[u8]) -> bool
-    ensures { result ≡ same a.now b.now }
+// Have two shapes the same angles and right bends?
+fn is_same(ours: Counts, theirs: Counts) -> bool
+    ensures { result ≡ (same ours.entry.angles.now theirs.entry.angles.now && same ours.entry.rights.now theirs.entry.rights.now) }
 {
-    if a.len() != b.len() {
-        return false;
-    }
-    let mut i = 0;
-    while i < a.len() {
-        if a[i] != b[i] {
-            return false;
+    ours.angles == theirs.angles && ours.rights == theirs.rights
+}
+
+impl ShapeFile<'_> {
+    /// The check's refusal, if any: 19 to 22, 25.
+    pub fn check(&self) -> Result<(), Refusal>
+        ensures { fault_of result ≡ check_fault self.now.list.bytes.now self.now.bytes.now }
+    {
+        judge(self.list.plate, self.counts)?;
+        if number(self.total) != self.counts.total() as usize {
+            return Err(Refusal::TotalDiffers);
         }
-        i += 1;
+        if !limits_ok(self.list.limits(), self.counts.rights) {
+            return Err(Refusal::LimitPassed);
+        }
+        Ok(())
     }
-    true
-}
 
-fn both(a: bool, b: bool) -> bool
-    ensures { result ≡ (a && b) }
-{
-    if a {
-        return b;
-    }
-    false
-}
-
-// A refusal: its number alone.
-pub fn refused_verdict(number: u8) -> Verdict
-    ensures { result ≡ refused_verdict number }
-{
-    Verdict {
-        number,
-        total: 0,
-        fewest: 0,
-        ours: false,
-    }
-}
-
-// The check's number of a shape file that has an angle and right bends for each dart of the plate: 19 to 22, 25, or 0.
-pub fn counts_fault(list: &[u8], f: Fields, plate: Plate, shape: &[u8], g: Fields) -> u8
-    requires { Readable list.now f plate shape.now g }
-    ensures { result ≡ check_fault list.now shape.now }
-{
-    let angles = content(shape, g, 2);
-    let rights = content(shape, g, 3);
-    let judged = judge(plate, angles, rights);
-    if judged != 0 {
-        return judged;
-    }
-    let said = number_of(shape, g, 1);
-    let counted = total_of(rights) as usize;
-    if said != counted {
-        return 22;
-    }
-    let limits = content(list, f, 6);
-    if !limits_ok(limits, rights) {
-        return 25;
-    }
-    0
-}
-
-// The verdict on a sound shape file, from the best shape's angles, right bends and total.
-pub fn sound_verdict(shape: &[u8], g: Fields, angles: &[u8], rights: &[u8], fewest: u32) -> Verdict
-    requires { WalkedFile true shape.now g }
-    ensures { (s : List ℕ) → Compared s shape.now angles.now rights.now fewest → CheckSays s shape.now result }
-{
-    let their_angles = content(shape, g, 2);
-    let their_rights = content(shape, g, 3);
-    let total = total_of(their_rights);
-    let is_angles = is_same(angles, their_angles);
-    let is_rights = is_same(rights, their_rights);
-    Verdict {
-        number: 0,
-        total,
-        fewest,
-        ours: both(is_angles, is_rights),
+    // The verdict on a sound file. It is itself a shape within the limits, so there is a best one.
+    pub(crate) fn sound(&self) -> Sound
+        requires { check_fault self.now.list.bytes.now self.now.bytes.now ≡ 0 }
+        ensures { CheckSays self.now.list.bytes.now self.now.bytes.now (verdict_of (Ok result)) }
+    {
+        let best = self.list.best().unwrap();
+        let ours = best.counts(self.list.plate.darts);
+        Sound {
+            total: self.counts.total(),
+            fewest: best.total,
+            ours: is_same(ours, self.counts),
+        }
     }
 }

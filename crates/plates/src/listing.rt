@@ -1,12 +1,15 @@
 //! The listing of a plate list: "refused N", or the revision, the bends and a line for each dart.
-ghost use Rattle.std.specs.Prelude.{◌≡◌, ◌+◌, ◌≤◌, length};
-ghost use Rattle.fields.specs.Writing.{Written};
-ghost use Rattle.plates.specs.Listing.{decimal, numbered, line, refused_text, dart_line, dart_lines, listing_text, LinesRoom, ListingRoom, TextWritten, Gives, ListingSays};
-ghost use Rattle.plates.specs.Encodes.{BestGiven};
+ghost use Rattle.std.specs.Prelude.{◌≡◌, true, ◌+◌, ◌≤◌, length};
+ghost use Rattle.refusals.specs.Numbers.{number_of};
+ghost use Rattle.fields.specs.Writing.{Written, all_bytes};
+ghost use Rattle.plates.specs.Answers.{listed_of};
+ghost use Rattle.plates.specs.Claims.{BestCounts};
+ghost use Rattle.plates.specs.Listing.{decimal, numbered, line, refused_text, dart_line, dart_lines, listing_text, LinesRoom, TextWritten, Gives, ListingSays};
 
-use crate::Listed;
+use crate::reading::PlateList;
 use fields::writing::copy_at;
-use fields::{Fields, number_of};
+use refusals::Refusal;
+use shapes::counts::Counts;
 
 // Writes a decimal number from `at` on, and gives the place behind it.
 pub fn write_decimal(n: usize, out: &mut [u8], at: usize) -> usize
@@ -61,90 +64,65 @@ fn write_dart(out: &mut [u8], at: usize, dart: usize, right: usize, angle: usize
     write_line(out, third, b" angle ", angle)
 }
 
-fn wide(b: u8) -> usize
-    ensures { result ≡ b }
-{
-    b as usize
-}
-
 // Writes the lines of all darts.
 fn write_darts(out: &mut [u8], at: usize, angles: &[u8], rights: &[u8]) -> usize
     requires { LinesRoom angles.now rights.now at (length out.old) }
     ensures { Written at (dart_lines (length rights.now) angles.now rights.now) out.old out.new result }
 {
     let mut next = at;
-    let mut d = 0;
-    while d < rights.len() {
-        next = write_dart(out, next, d, wide(rights[d]), wide(angles[d]));
-        d += 1;
+    for (d, right) in rights.iter().enumerate() {
+        next = write_dart(
+            out,
+            next,
+            d,
+            usize::from(*right),
+            usize::from(angles[d]),
+        );
     }
     next
 }
 
-// Writes the listing of an accepted list, and gives its length.
-pub fn write_counts(
-    out: &mut [u8],
-    revision: usize,
-    total: usize,
-    angles: &[u8],
-    rights: &[u8],
-) -> usize
-    requires { ListingRoom revision total angles.now rights.now (length out.old) }
-    ensures { TextWritten (listing_text revision angles.now rights.now) out.old out.new result }
+// Writes the listing of these counts, and gives its length.
+fn write_counts(out: &mut [u8], revision: usize, counts: Counts) -> usize
+    requires { length (listing_text revision counts.angles.now counts.rights.now) ≤ length out.old }
+    ensures { TextWritten (listing_text revision counts.entry.angles.now counts.entry.rights.now) out.old out.new result }
 {
+    let Counts { angles, rights } = counts;
     let second = write_line(out, 0, b"revision ", revision);
-    let third = write_line(out, second, b"bends ", total);
+    let third = write_line(out, second, b"bends ", counts.total() as usize);
     write_darts(out, third, angles, rights)
 }
 
-// Writes the listing of a refused list, and gives its length.
-pub fn write_refused(out: &mut [u8], number: usize) -> usize
-    requires { length (refused_text number) ≤ length out.old }
-    ensures { TextWritten (refused_text number) out.old out.new result }
-{
-    write_line(out, 0, b"refused ", number)
-}
-
 // Gives a text into lent memory, or 16.
-pub fn give_text(text: &[u8], out: &mut [u8]) -> Listed
-    ensures { Gives text.now out.old out.new result }
+fn give_text(text: &[u8], out: &mut [u8]) -> Result<usize, Refusal>
+    ensures { Gives text.now out.old out.new (listed_of result) }
 {
     if out.len() < text.len() {
-        return Listed {
-            number: 16,
-            long: 0,
-        };
+        return Err(Refusal::MemoryShort);
     }
     copy_at(out, 0, text);
-    Listed {
-        number: 0,
-        long: text.len(),
-    }
+    Ok(text.len())
 }
 
 // The listing of a refused list.
-pub fn list_refused(number: u8, out: &mut [u8]) -> Listed
-    ensures { Gives (refused_text number) out.old out.new result }
+pub(crate) fn list_refused(refusal: Refusal, out: &mut [u8]) -> Result<usize, Refusal>
+    ensures { Gives (refused_text (number_of refusal)) out.old out.new (listed_of result) }
 {
     let mut text = [0u8; 12];
-    let long = write_refused(&mut text, wide(number));
+    let number = usize::from(refusal.number());
+    let long = write_line(&mut text, 0, b"refused ", number);
     give_text(&text[..long], out)
 }
 
-// The listing of an accepted list, from the angles, right bends and total of its best shape.
-pub fn list_best(
-    list: &[u8],
-    f: Fields,
-    angles: &[u8],
-    rights: &[u8],
-    total: u32,
-    out: &mut [u8],
-) -> Listed
-    requires { BestGiven list.now f angles.now rights.now total }
-    ensures { ListingSays list.now out.old out.new result }
-{
-    let mut text = [0u8; 6939];
-    let revision = number_of(list, f, 0);
-    let long = write_counts(&mut text, revision, total as usize, angles, rights);
-    give_text(&text[..long], out)
+impl PlateList<'_> {
+    // The listing of an accepted list, from the counts of its best shape.
+    pub(crate) fn list_counts(&self, counts: Counts, out: &mut [u8]) -> Result<usize, Refusal>
+        requires bytes { all_bytes self.now.bytes.now ≡ true }
+        requires best { BestCounts self.now.bytes.now counts.angles.now counts.rights.now }
+        ensures { ListingSays self.now.bytes.now out.old out.new (listed_of result) }
+    {
+        let mut text = [0u8; 6939];
+        let long = write_counts(&mut text, self.revision(), counts);
+        give_text(&text[..long], out)
+    }
 }

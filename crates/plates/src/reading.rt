@@ -1,134 +1,109 @@
-//! A plate list read: its fields and its plate, or its refusal.
-ghost use Rattle.std.specs.Prelude.{◌≡◌, false};
-ghost use Rattle.fields.specs.Says.{refused_by};
-ghost use Rattle.embedding.specs.Read.{blank, Reads};
-ghost use Rattle.plates.specs.Files.{walk_all, limits_fit, plate_of};
-ghost use Rattle.plates.specs.Read.{Walked, ListRefused, ReadsList, ReadsShape};
+//! A plate list and a shape file for it, read: their fields, the plate and the counts.
+ghost use Rattle.std.specs.Prelude.{◌≡◌, List, false, true, IfOk};
+ghost use Rattle.refusals.specs.Numbers.{fault_of};
+ghost use Rattle.fields.specs.Says.{ListFieldsOf, word};
+ghost use Rattle.embedding.specs.Read.{meant};
+ghost use Rattle.plates.specs.Files.{Field, content_of, walk_all, list_fault, limits_fit, plate_of, limits_of};
+ghost use Rattle.plates.specs.Says.{angles_in, rights_in};
+ghost use Rattle.plates.specs.Read.{shape_file_fault};
 
-use embedding::{Plate, Reading, read_plate};
-use fields::{Fields, byte_of, content, number_of, walk_list, walk_shape};
+use embedding::{Plate, read_plate};
+use fields::{ListFields, ShapeFields, first, number, walk_list, walk_shape};
+use refusals::Refusal;
+use shapes::counts::Counts;
 
-// The number of the refusal, or 0 with the fields and the plate.
+/// An accepted plate list: its bytes, the contents of its fields and its plate.
 #[derive(Clone, Copy)]
-pub struct ListRead {
-    pub number: u8,
-    pub fields: Fields,
+pub struct PlateList<'a> {
+    pub bytes: &'a [u8],
+    pub fields: ListFields<'a>,
     pub plate: Plate,
+    pub ghost accepted: { list_fault bytes.now ≡ 0 },
+    pub ghost contents: { ListFieldsOf (walk_all false bytes.now).fields fields },
+    pub ghost table: { meant plate ≡ plate_of bytes.now },
 }
 
-fn no_plate() -> Plate
-    ensures { result ≡ blank }
-{
-    Plate {
-        posts: 0,
-        darts: 0,
-        ends: [0; 256],
-        places: [0; 256],
-        degrees: [0; 64],
-        outer: 0,
-        next: [0; 256],
-        face: [0; 256],
-        faces: 0,
-        sizes: [0; 66],
+/// A shape file for an accepted list: it has the list's revision, and an angle and right bends for each dart.
+#[derive(Clone, Copy)]
+pub struct ShapeFile<'a> {
+    pub list: PlateList<'a>,
+    pub bytes: &'a [u8],
+    pub total: &'a [u8],
+    pub counts: Counts<'a>,
+    pub ghost accepted: { shape_file_fault list.bytes.now bytes.now ≡ 0 },
+    pub ghost total_said: { total.now ≡ content_of 18 (walk_all true bytes.now).fields },
+    pub ghost angles: { counts.angles.now ≡ angles_in bytes.now },
+    pub ghost rights: { counts.rights.now ≡ rights_in bytes.now },
+}
+
+impl<'a> PlateList<'a> {
+    /// The limits of bends, one for each strip; none where the list has no limits.
+    pub fn limits(&self) -> &'a [u8]
+        ensures { result.now ≡ limits_of self.now.bytes.now }
+    {
+        self.fields.limits.unwrap_or(b"")
+    }
+
+    /// The revision.
+    pub fn revision(&self) -> usize
+        ensures { result ≡ word (content_of 1 (walk_all false self.now.bytes.now).fields) }
+    {
+        number(self.fields.revision)
     }
 }
 
-fn no_fields(number: u8) -> Fields
-    ensures { result ≡ refused_by number }
+// Are the limits of bends, where the list has them, one for each strip?
+fn limits_fit(fields: ListFields) -> bool
+    ensures { (fs : List Field) → ListFieldsOf fs fields.entry → result ≡ limits_fit fs }
 {
-    Fields {
-        number,
-        at: [0; 7],
-        long: [0; 7],
-        seen: [false; 7],
+    match fields.limits {
+        Some(limits) => limits.len() == fields.ends.len() / 2,
+        None => true,
     }
 }
 
-// A refusal: its number alone.
-fn refused_list(number: u8) -> ListRead
-    ensures { (result.number ≡ number) × ListRefused number result }
+/// The list, or its refusal.
+pub fn read_list(bytes: &[u8]) -> Result<PlateList<'_>, Refusal>
+    ensures { (fault_of result ≡ list_fault bytes.now) × IfOk result (λ list. list.bytes.now ≡ bytes.now) }
 {
-    let fields = no_fields(number);
-    let plate = no_plate();
-    ListRead {
-        number,
+    let fields = walk_list(bytes)?;
+    let plate = read_plate(
+        first(fields.posts),
+        fields.ends,
+        fields.order,
+        first(fields.outer),
+    )?;
+    if !limits_fit(fields) {
+        return Err(Refusal::LimitsLength);
+    }
+    Ok(PlateList {
+        bytes,
         fields,
         plate,
-    }
+    })
 }
 
-// The plate of a list that passed the walk.
-fn plate_in(list: &[u8], f: Fields) -> Reading
-    requires { Walked list.now f }
-    ensures { Reads (plate_of list.now) result }
+/// The shape file for a list, or its refusal: 1 to 6, 17, 18, 29.
+pub fn read_shape<'a>(list: PlateList<'a>, bytes: &'a [u8]) -> Result<ShapeFile<'a>, Refusal>
+    ensures { (fault_of result ≡ shape_file_fault list.entry.bytes.now bytes.now) × IfOk result (λ file. (file.list.bytes.now ≡ list.entry.bytes.now) × (file.bytes.now ≡ bytes.now)) }
 {
-    let posts = byte_of(list, f, 1, 0);
-    let ends = content(list, f, 2);
-    let order = content(list, f, 3);
-    let outer = byte_of(list, f, 4, 0);
-    read_plate(posts, ends, order, outer)
-}
-
-// Whether the limits of bends, where the list has them, are one for each strip.
-fn limits_fit(list: &[u8], f: Fields) -> bool
-    requires { Walked list.now f }
-    ensures { result ≡ limits_fit (walk_all false list.now).fields }
-{
-    let is_there = f.seen[6];
-    let ends = content(list, f, 2);
-    let limits = content(list, f, 6);
-    if is_there {
-        return limits.len() == ends.len() / 2;
+    let ShapeFields {
+        revision,
+        total,
+        angles,
+        rights,
+    } = walk_shape(bytes)?;
+    let darts = list.plate.darts;
+    if angles.len() != darts || rights.len() != darts {
+        return Err(Refusal::ShapeLength);
     }
-    true
-}
-
-// The fields and the plate of a list, or its refusal.
-pub fn read_list(list: &[u8]) -> ListRead
-    ensures { ReadsList list.now result }
-{
-    let fields = walk_list(list);
-    if fields.number != 0 {
-        return refused_list(fields.number);
+    if list.revision() != number(revision) {
+        return Err(Refusal::RevisionDiffers);
     }
-    let reading = plate_in(list, fields);
-    if reading.number != 0 {
-        return refused_list(reading.number);
-    }
-    let is_fit = limits_fit(list, fields);
-    if !is_fit {
-        return refused_list(23);
-    }
-    let plate = reading.plate;
-    ListRead {
-        number: 0,
-        fields,
-        plate,
-    }
-}
-
-// The fields of a shape file for a list that passed the walk, or its refusal: 1 to 6, 17, 18.
-pub fn read_shape(list: &[u8], f: Fields, shape: &[u8]) -> Fields
-    requires { Walked list.now f }
-    ensures { ReadsShape list.now shape.now result }
-{
-    let g = walk_shape(shape);
-    if g.number != 0 {
-        return no_fields(g.number);
-    }
-    let ends = content(list, f, 2);
-    let angles = content(shape, g, 2);
-    let rights = content(shape, g, 3);
-    if angles.len() != ends.len() {
-        return no_fields(17);
-    }
-    if rights.len() != ends.len() {
-        return no_fields(17);
-    }
-    let own = number_of(list, f, 0);
-    let theirs = number_of(shape, g, 0);
-    if own != theirs {
-        return no_fields(18);
-    }
-    g
+    Ok(ShapeFile {
+        list,
+        bytes,
+        total,
+        counts: Counts { angles, rights },
+    })
 }

@@ -1,14 +1,25 @@
 -- `check_shape`: the list's refusal, the shape file's own, or the verdict on its counts.
-use mathlib.Core.Path.{sym, subst}
-use native.Mathlib.Omega.{arith}
-use Rattle.plates.specs.declared.Verdict.{Verdict}
-use Rattle.plates.specs.Says.{CheckSays}
-use Rattle.plates.proofs.CheckSound.{list_refused_check, file_refused_check}
-use Rattle.plates.proofs.Calls.{no_fault}
+use mathlib.Core.Path.{◌≡◌, sym, ap, ◌∙◌}
+use Rattle.std.proofs.Common.{rules, Err}
+use Rattle.refusals.specs.Numbers.{number_of}
+use Rattle.embedding.proofs.Numbers.{number_some}
+use Rattle.plates.specs.Read.{shape_file_fault}
+use Rattle.plates.specs.Says.{check_fault}
+use Rattle.plates.proofs.CheckSound.{refused_check, file_refused_check}
 use Rattle.plates.proofs.check_shape.Goals as goal
 
-pub returns-then-read-ne0 : goal.returns-then-read-ne0
-returns-then-read-ne0 c = subst (λ (v : Verdict). CheckSays c.args.list.now c.args.shape.now v) (sym c.refused_verdict.ensures) (list_refused_check c.args.list.now c.args.shape.now c.read_list-read.result.number c.read_list-read.ensures.number c.if-read-ne0.true)
+pub returns-in_err-file : goal.returns-in_err-file
+returns-in_err-file c =
+    let t = c.args.shape.now in
+    let refusal = c.in_err-file.field-0.0 in
+    let told : c.from_residual-in_err-file.result ≡ Err refusal = search rules in
+    let own = c.in_ok-read.ensures in
+    rw told (file_refused_check c.args.list.now t (sym own.0) (number_of refusal) (c.in_err-file.ensures.0 ∙ ap (λ l. shape_file_fault l t) own.1) (number_some refusal))
 
-pub returns-then-g-ne0 : goal.returns-then-g-ne0
-returns-then-g-ne0 c = subst (λ (v : Verdict). CheckSays c.args.list.now c.args.shape.now v) (sym c.refused_verdict-then-g-ne0.ensures) (file_refused_check c.args.list.now c.args.shape.now (no_fault c.read_list-read.ensures (omega (arith, c.if-read-ne0.false))) c.read_shape-g.result.number c.read_shape-g.ensures.number c.if-g-ne0.true)
+pub returns-in_err-check : goal.returns-in_err-check
+returns-in_err-check c =
+    let refusal = c.in_err-check.field-0.0 in
+    let told : c.from_residual-in_err-check.result ≡ Err refusal = search rules in
+    let own = c.in_ok-read.ensures in
+    let file = c.in_ok-file.ensures.1 in
+    rw told (refused_check c.args.list.now c.args.shape.now (number_of refusal) (sym (c.in_err-check.ensures ∙ (λ i. check_fault ((file.0 ∙ own.1) i) (file.1 i)))) (number_some refusal))

@@ -1,34 +1,32 @@
 -- `write_shape`: the list's refusal, 24, or what is given of the best shape of its plate.
-use native.Mathlib.Omega.{arith}
-use mathlib.Core.Path.{sym, subst}
-use borrow.Author.Tests.{not-true, not-false}
-use Rattle.plates.specs.declared.Shaped.{Shaped}
-use Rattle.plates.specs.Files.{limits_of}
+use mathlib.Core.Path.{◌≡◌, sym, ap, subst, ◌∙◌}
+use Rattle.std.proofs.Common.{rules, Err}
+use Rattle.std.specs.Option.{ok_or}
+use Rattle.refusals.specs.Numbers.{number_of, fault_of}
+use Rattle.refusals.specs.declared.Refusal.TheVariants.{NoShapeWithin}
+use Rattle.plates.specs.Claims.{NoneWithin}
+use Rattle.plates.specs.Answers.{shaped, shaped_of}
 use Rattle.plates.specs.Says.{ShapeSays}
-use Rattle.plates.proofs.Shaping.{list_refused_says, none_says, best_file, best_says}
-use Rattle.plates.proofs.Calls.{no_fault, stands, given, none_given, angles_within, rights_within, angles_many, rights_many}
+use Rattle.plates.proofs.Shaping.{none_says, best_says}
+use Rattle.plates.proofs.Calls.{best_counts}
 use Rattle.plates.proofs.write_shape.Goals as goal
 
-pub returns-then-read-ne0 : goal.returns-then-read-ne0
-returns-then-read-ne0 c = subst (λ (r : Shaped). ShapeSays c.args.list.now c.args.out.now c.args.out.now r) (sym c.refused_shape.ensures) (list_refused_says c.read_list-read.result.number c.args.list.now c.args.out.now c.read_list-read.ensures.number c.if-read-ne0.true)
-
-pub returns-then-not-answer : goal.returns-then-not-answer
-returns-then-not-answer c = subst (λ (r : Shaped). ShapeSays c.args.list.now c.args.out.now c.args.out.now r) (sym c.refused_shape-then-not-answer.ensures) (none_says c.args.list.now c.args.out.now (no_fault c.read_list-read.ensures (omega (arith, c.if-read-ne0.false))) (none_given c.best_of-answer.result c.read_list-read.ensures (omega (arith, c.if-read-ne0.false)) c.best_of-answer.ensures (not-true c.best_of-answer.result.found c.if-not-answer.true)))
-
-pub slice_bounds-angles-end : goal.slice_bounds-angles-end
-slice_bounds-angles-end c = angles_within (limits_of c.args.list.now) c.best_of-answer.result (stands c.read_list-read.ensures (omega (arith, c.if-read-ne0.false))) c.best_of-answer.ensures
-
-pub slice_bounds-write_file-end : goal.slice_bounds-write_file-end
-slice_bounds-write_file-end c = angles_many (limits_of c.args.list.now) c.best_of-answer.result (stands c.read_list-read.ensures (omega (arith, c.if-read-ne0.false))) c.best_of-answer.ensures
-
-pub slice_bounds-rights-end : goal.slice_bounds-rights-end
-slice_bounds-rights-end c = rights_within (limits_of c.args.list.now) c.best_of-answer.result (stands c.read_list-read.ensures (omega (arith, c.if-read-ne0.false))) c.best_of-answer.ensures
-
-pub slice_bounds-write_file-end-2 : goal.slice_bounds-write_file-end-2
-slice_bounds-write_file-end-2 c = rights_many (limits_of c.args.list.now) c.best_of-answer.result (stands c.read_list-read.ensures (omega (arith, c.if-read-ne0.false))) c.best_of-answer.ensures
-
-pub write_file-requires : goal.write_file-requires
-write_file-requires c = best_file (given c.best_of-answer.result c.read_list-read.ensures (omega (arith, c.if-read-ne0.false)) c.best_of-answer.ensures (not-false c.best_of-answer.result.found c.if-not-answer.false))
+pub returns-in_err-best : goal.returns-in_err-best
+returns-in_err-best c =
+    let s = c.args.list.now in
+    let o = c.args.out.now in
+    let none = c.in_err-best.ensures in
+    let refusal = c.in_err-best.field-0.0 in
+    let told : c.from_residual-in_err-best.result ≡ Err refusal = search rules in
+    let number : number_of refusal ≡ 24 = ap fault_of (none.value ∙ ap (λ b. ok_or b NoShapeWithin) none.ok_part) in
+    let own = c.in_ok-read.ensures in
+    rw told (subst (λ n. ShapeSays s o o (shaped n 0 0)) (sym number) (none_says s o (sym own.0) (subst NoneWithin own.1 (rw none.ok_part at c.best.ensures))))
 
 pub returns : goal.returns
-returns c = best_says (given c.best_of-answer.result c.read_list-read.ensures (omega (arith, c.if-read-ne0.false)) c.best_of-answer.ensures (not-false c.best_of-answer.result.found c.if-not-answer.false)) c.args.out.now _ _ c.write_file.ensures
+returns c =
+    let own = c.in_ok-read.ensures in
+    let k = c.counts.ensures in
+    let v = shaped_of c.write_file.result in
+    let held = rw c.in_ok-best.ensures.ok_part at c.best.ensures in
+    let best = best_counts c.in_ok-read.read c.in_ok-best.best held k.0 k.1 in
+    subst (λ s. ShapeSays s c.args.out.now c.write_file.new.out v) own.1 (best_says c.in_ok-read.read.accepted best c.args.out.now c.write_file.new.out v c.write_file.ensures)

@@ -1,11 +1,6 @@
 -- `plates::listing::write_darts` writes the darts' lines in turn. The invariant: the lines of the darts passed stand one behind the other.
-use Prim.Native.Nat.{◌-◌}
-use lib.ListN.{length}
 use Rattle.plates.proofs.ListingRows.{LinesDone}
 use Rattle.plates.proofs.listing.write_darts.Given as goal
 
 abbrev pub invariant-loop-d : goal.invariant-loop-d
 invariant-loop-d l = LinesDone l.angles l.rights l.initial.out l.at l.out l.next l.d
-
-abbrev pub decreases-loop-d : goal.decreases-loop-d
-decreases-loop-d l = length l.rights - l.d
