@@ -9,8 +9,8 @@ use lib.ListN.{length, take, drop}
 use lib.Seq.{take_at}
 use borrow.Author.Tests.{le-ltb}
 use Rattle.finite.proofs.Tests.{first_none, when_none}
-use Rattle.plates.specs.declared.Shaped.{Shaped}
-use Rattle.plates.specs.declared.Listed.{Listed}
+use Rattle.plates.specs.Answers.{Shaped}
+use Rattle.plates.specs.Answers.{Listed}
 use Rattle.plates.specs.Plates.{first_of, when}
 use Rattle.plates.specs.Shapes.{rights_of, shape_of}
 use Rattle.plates.specs.Files.{walk_all, list_fault, plate_of, shape_bytes}

@@ -2,7 +2,7 @@
 use mathlib.Core.Path.{◌≡◌, refl, sym, ap, subst, ◌∙◌}
 use mathlib.Core.Bool.{Bool, true, false, cond, not}
 use mathlib.Core.List.{List, [], ◌∷◌}
-use Prim.Native.Nat.{ℕ, zero, suc, ◌+◌, ◌≤◌, ◌<◌}
+use Prim.Native.Nat.{ℕ, zero, suc, ◌+◌, ◌%◌, ◌≤◌, ◌<◌}
 use native.Mathlib.Omega.{arith}
 use lib.Dec.{eqb, ltb}
 use lib.ListN.{length, get_or}
@@ -13,14 +13,13 @@ use Rattle.finite.proofs.Tests.{eqb_turned}
 use Rattle.finite.specs.Walks.{orbit, OneToOne}
 use Rattle.finite.proofs.Tables.{up_below}
 use Rattle.embedding.specs.Steps.{next_of}
-use Rattle.embedding.specs.Read.{Stands, lead, place_of}
+use Rattle.embedding.specs.Read.{meant, lead, place_of}
 use Rattle.embedding.specs.declared.Plate.{Plate as Held}
 use Rattle.embedding.proofs.Rotation.{Ordered, after_one_to_one}
 use Rattle.embedding.proofs.Faces.{face_start, lead_least}
 use Rattle.embedding.proofs.Degrees.{darts_few}
 use Rattle.embedding.proofs.Numbering.{follows_face}
 use Rattle.embedding.proofs.Answers.{number_lead}
-use Rattle.shapes.specs.Claims.{Accepted}
 use Rattle.shapes.proofs.Accepted.{faultless, ordered}
 use Rattle.shapes.proofs.HeldPlate.{faces_are}
 use Rattle.shapes.proofs.Places.{face_below_darts, index_of_lead}
@@ -64,37 +63,43 @@ place_found k xs {r} {n} e h =
     go true q = refl
     go false q = omega (arith, ltb-false (position_or_len (λ y. eqb y k) xs) (length xs) q, place_least k xs)
 
-module _ {h : Held} {p : Plate} (s : Stands h p) (a : Accepted p) where
+module _ (q : Held) where
+  abbrev p : Plate
+  p = meant q
+
   o : Ordered p
-  o = ordered p a
+  o = ordered p q.accepted
 
-  pub few : darts p ≤ 256
-  few = darts_few p (faultless p a) o
+  pub few : darts (meant q) ≤ 256
+  few = darts_few p (faultless p q.accepted) o
 
-  agree : (x : ℕ) → x < darts p → next_of h.next x ≡ after p x
-  agree x l = s.next-darts.at x (omega (arith, few)) ∙ up_below (darts p) (after p) x l
+  pub dart_bounds : (q.darts % 2 ≡ 0) × (q.darts ≤ 256)
+  dart_bounds = (ap (λ (n : ℕ). n % 2) q.stands.dart_count ∙ o.even, omega (arith, q.stands.dart_count, few))
 
-  one_below : OneToOne (next_of h.next) (darts p)
+  agree : (x : ℕ) → x < darts p → next_of q.next x ≡ after p x
+  agree x l = q.stands.next-darts.at x (omega (arith, few)) ∙ up_below (darts p) (after p) x l
+
+  one_below : OneToOne (next_of q.next) (darts p)
   one_below =
       let F = after_one_to_one p o in
       record {
         below = λ x l. subst (λ (y : ℕ). y < darts p) (sym (agree x l)) (F.below x l);
-        one = λ x y l k q. F.one x y l k (sym (agree x l) ∙ q ∙ agree y k);
+        one = λ x y l k e. F.one x y l k (sym (agree x l) ∙ e ∙ agree y k);
       }
 
-  pub held_one : OneToOne (next_of h.next) h.darts
-  held_one = subst (λ (n : ℕ). OneToOne (next_of h.next) n) (sym s.dart_count) one_below
+  pub held_one : OneToOne (next_of q.next) q.darts
+  held_one = subst (λ (n : ℕ). OneToOne (next_of q.next) n) (sym q.stands.dart_count) one_below
 
-  pub held_face : (d : ℕ) → d < darts p → orbit (next_of h.next) h.darts d ≡ face_of p d
+  pub held_face : (d : ℕ) → d < darts (meant q) → orbit (next_of q.next) q.darts d ≡ face_of (meant q) d
   held_face d l =
-      follows_face {p = p} (record { many = s.dart_count; table = s.next-darts }) (omega (arith, s.dart_count, few)) held_one d (omega (arith, s.dart_count))
+      follows_face {p = p} (record { many = q.stands.dart_count; table = q.stands.next-darts }) (omega (arith, q.stands.dart_count, few)) held_one d (omega (arith, q.stands.dart_count))
 
-  pub number_start : (k : ℕ) → k < length (faces p) → place_of k h.face ≡ get_or (faces p) k 0
+  pub number_start : (k : ℕ) → k < length (faces (meant q)) → place_of k q.face ≡ get_or (faces (meant q)) k 0
   number_start k l =
       let d = get_or (faces p) k 0 in
       let m = face_below_darts p o k l in
-      place_first h.face k d (omega (arith, s.face_numbers.size, few)) (faces_are s a d m ∙ index_of_lead p o k l)
+      place_first q.face k d (omega (arith, q.stands.face_numbers.size, few)) (faces_are q d m ∙ index_of_lead p o k l)
       (λ j i z.
       let n : j < darts p = omega arith in
-      let q : lead p j ≡ d = sym (number_lead p o j n) ∙ ap (λ (x : ℕ). get_or (faces p) x 0) (sym (faces_are s a j n) ∙ z) in
+      let e : lead p j ≡ d = sym (number_lead p o j n) ∙ ap (λ (x : ℕ). get_or (faces p) x 0) (sym (faces_are q j n) ∙ z) in
       omega (arith, lead_least p o j n j (face_start p o j n)))

@@ -8,7 +8,7 @@ use lib.ListN.{length, get_or, take, drop, length-append, take-append-drop}
 use lib.Seq.{take-suc, take_all}
 use Rattle.finite.specs.Walks.{orbit}
 use Rattle.embedding.specs.Steps.{next_of}
-use Rattle.embedding.specs.Read.{Stands, lead, place_of, face_number}
+use Rattle.embedding.specs.Read.{meant, lead, place_of, face_number}
 use Rattle.embedding.specs.declared.Plate.{Plate as Held}
 use Rattle.embedding.proofs.Rotation.{Ordered}
 use Rattle.embedding.proofs.Answers.{number_below, number_lead}
@@ -16,7 +16,7 @@ use Rattle.shapes.specs.Claims.{Accepted}
 use Rattle.embedding.proofs.Degrees.{darts_few}
 use Rattle.shapes.proofs.Accepted.{faultless, ordered}
 use Rattle.shapes.proofs.Places.{face_below_darts, index_of_lead}
-use Rattle.shapes.proofs.HeldPlate.{few_faces, faces_are}
+use Rattle.shapes.proofs.HeldPlate.{faces_are}
 use Rattle.plates.specs.Plates.{Plate, darts, face_of, faces}
 use Rattle.plates.specs.Text.{Entry}
 use Rattle.plates.specs.Lines.{without, sequence, line, lines}
@@ -33,36 +33,29 @@ lines_append p [] es = refl
 lines_append p (d ∷ ds) es = ap (λ (l : List Entry). line [] [] (face_of p d) ++ l) (lines_append p ds es) ∙ sym (append_assoc (line [] [] (face_of p d)) (lines p [] [] ds) (lines p [] [] es))
 
 -- what a held plate gives for the face of a number
-module _ {h : Held} {p : Plate} (s : Stands h p) (a : Accepted p) {number start : ℕ} {q : List Turn} (fits : NumberFits p number q) (start_is : start ≡ place_of number h.face) where
+module _ (h : Held) {number start : ℕ} {q : List Turn} (fits : NumberFits (meant h) number q) (start_is : start ≡ place_of number h.face) where
   abbrev d : ℕ
-  d = get_or (faces p) number 0
+  d = get_or (faces (meant h)) number 0
 
   start_lead : start ≡ d
-  start_lead = start_is ∙ number_start s a number fits.there
+  start_lead = start_is ∙ number_start h number fits.there
 
-  d_below : d < darts p
-  d_below = face_below_darts p (ordered p a) number fits.there
+  d_below : d < darts (meant h)
+  d_below = face_below_darts (meant h) (ordered (meant h) h.accepted) number fits.there
 
-  walk_is : orbit (next_of h.next) h.darts start ≡ face_of p d
-  walk_is = ap (orbit (next_of h.next) h.darts) start_lead ∙ held_face s a d d_below
+  walk_is : orbit (next_of h.next) h.darts start ≡ face_of (meant h) d
+  walk_is = ap (orbit (next_of h.next) h.darts) start_lead ∙ held_face h d d_below
 
   pub number_room : FaceRoom h.next h.darts start q
   number_room = record {
-    few = omega (arith, s.dart_count, few s a);
-    below = omega (arith, start_lead, d_below, s.dart_count);
-    one = held_one s a;
+    few = omega (arith, h.stands.dart_count, few h);
+    below = omega (arith, start_lead, d_below, h.stands.dart_count);
+    one = held_one h;
     enough = omega (arith, fits.enough, ap length walk_is);
   }
 
-  pub number_laid : (r : List Turn) → FaceLaid h.next h.darts start q r → NumberLaid p number q r
+  pub number_laid : (r : List Turn) → FaceLaid h.next h.darts start q r → NumberLaid (meant h) number q r
   number_laid r f = f ∙ ap (λ (l : List ℕ). laid q ++ line [] [] l) walk_is
-
--- as many faces, whichever plate is held
-pub same-faces : {h : Held} {p u : Plate} {k : ℕ} → Stands h p → Stands h u → k < length (faces p) → k < length (faces u)
-same-faces s t l = omega (arith, s.face_count, t.face_count)
-
-pub faces_byte : {h : Held} {p : Plate} {k : ℕ} → Stands h p → Accepted p → k < length (faces p) → k < 256
-faces_byte s a l = omega (arith, s.face_count, few_faces s a)
 
 module _ (p : Plate) (a : Accepted p) where
   abbrev first : ℕ
@@ -98,7 +91,7 @@ module _ (p : Plate) (a : Accepted p) where
     outer_lead = ap (λ (j : ℕ). get_or (faces p) j 0) outer_is ∙ number_lead p (ordered p a) p.outer (outer_below p a)
 
     -- the outer face is laid already
-    pub laying_same : (q : List Turn) → k ≡ outer → Laying p k q → Laying p (k + 1) q
+    laying_same : (q : List Turn) → k ≡ outer → Laying p k q → Laying p (k + 1) q
     laying_same q e y =
         let same : first ≡ next_lead = sym outer_lead ∙ ap (λ (j : ℕ). get_or (faces p) j 0) (sym e) in
         y ∙ ap (lines p [] []) (sym (parted ∙ ap (λ (x : List ℕ). so_far k ++ x) (without_same first next_lead same) ∙ append-nil (so_far k)))
@@ -113,7 +106,7 @@ module _ (p : Plate) (a : Accepted p) where
           ∙ lines_append p (so_far k) (next_lead ∷ [])
           ∙ ap (λ (x : List Entry). lines p [] [] (so_far k) ++ x) (append-nil (line [] [] (face_of p next_lead)))
 
-      pub laying_fits : (q : List Turn) → Laying p k q → NumberFits p k q
+      laying_fits : (q : List Turn) → Laying p k q → NumberFits p k q
       laying_fits q y = record {
         there = l;
         enough = omega (
@@ -128,37 +121,51 @@ module _ (p : Plate) (a : Accepted p) where
         );
       }
 
-      pub laying_more : (q r : List Turn) → Laying p k q → NumberLaid p k q r → Laying p (k + 1) r
+      laying_more : (q r : List Turn) → Laying p k q → NumberLaid p k q r → Laying p (k + 1) r
       laying_more q r y z = z ∙ ap (λ (x : List Entry). x ++ line [] [] (face_of p next_lead)) y ∙ sym more
 
 -- nothing laid, the outer face laid, all laid
-module _ {h : Held} {p : Plate} (s : Stands h p) (a : Accepted p) (outer : ℕ) (outer_is : OuterIs p outer) where
+module _ (h : Held) {outer d : ℕ} (outer_is : outer ≡ get_or h.face d 0) (d-is : d ≡ h.outer) where
+  abbrev p : Plate
+  p = meant h
+
   o : Ordered p
-  o = ordered p a
+  o = ordered p h.accepted
+
+  out : p.outer < darts p
+  out = outer_below p h.accepted
+
+  pub outer_number : OuterIs (meant h) outer
+  outer_number = outer_is ∙ ap (λ (x : ℕ). get_or h.face x 0) (d-is ∙ h.stands.outer_dart) ∙ faces_are h p.outer out
 
   outer_first : get_or (faces p) outer 0 ≡ lead p p.outer
-  outer_first = ap (λ (j : ℕ). get_or (faces p) j 0) outer_is ∙ number_lead p o p.outer (outer_below p a)
+  outer_first = ap (λ (j : ℕ). get_or (faces p) j 0) outer_number ∙ number_lead p o p.outer out
 
   first_most : length (face_of p (get_or (faces p) outer 0)) ≤ darts p
-  first_most = omega (arith, so_far_most p a 0, ap (λ (x : ℕ). length (face_of p x)) outer_first, ap length (append-nil (line [] [] (face_of p (lead p p.outer)))), line_long (face_of p (lead p p.outer)))
+  first_most = omega (arith, so_far_most p h.accepted 0, ap (λ (x : ℕ). length (face_of p x)) outer_first, ap length (append-nil (line [] [] (face_of p (lead p p.outer)))), line_long (face_of p (lead p p.outer)))
 
-  pub outer_fits : (q : List Turn) → q ≡ [] → NumberFits p outer q
+  pub outer_fits : (q : List Turn) → q ≡ [] → NumberFits (meant h) outer q
   outer_fits q e = record {
-    there = omega (arith, number_below p o p.outer (outer_below p a));
-    enough = omega (arith, first_most, few s a, ap length e);
+    there = omega (arith, outer_number, number_below p o p.outer out);
+    enough = omega (arith, first_most, few h, ap length e);
   }
 
-  pub outer_laid : (q r : List Turn) → q ≡ [] → NumberLaid p outer q r → Laying p 0 r
+  pub outer_laid : (q r : List Turn) → q ≡ [] → NumberLaid (meant h) outer q r → Laying (meant h) 0 r
   outer_laid q r e z = z ∙ ap (λ (x : List Turn). laid x ++ line [] [] (face_of p (get_or (faces p) outer 0))) e ∙ ap (λ (x : ℕ). line [] [] (face_of p x)) outer_first ∙ sym (append-nil (line [] [] (face_of p (lead p p.outer))))
 
-  pub laying_done : {k : ℕ} (q : List Turn) → length (faces p) ≤ k → Laying p k q → PlanHeld p q
-  laying_done {k} q l y = y ∙ ap (λ (x : List ℕ). lines p [] [] (lead p p.outer ∷ without (lead p p.outer) x)) (take_all k (faces p) l)
+  there : {k : ℕ} → k < h.faces → k < length (faces p)
+  there l = omega (arith, h.stands.face_count)
 
--- the number that the outer dart has
-pub outer_number : {h : Held} {p : Plate} {d : ℕ} → Stands h p → Accepted p → d ≡ h.outer → OuterIs p (get_or h.face d 0)
-outer_number {h} {p} {d} s a e =
-    let q : d ≡ p.outer = e ∙ s.outer_dart in
-    ap (λ (x : ℕ). get_or h.face x 0) q ∙ faces_are s a p.outer (outer_below p a)
+  -- one number more
+  module _ {k : ℕ} (l : k < h.faces) (q : List Turn) (y : Laying (meant h) k q) where
+    pub face_same : k ≡ outer → Laying (meant h) (k + 1) q
+    face_same e = laying_same p h.accepted outer k outer_number (there l) q e y
 
-pub outer_place : {h : Held} {p : Plate} {d : ℕ} → Stands h p → Accepted p → d ≡ h.outer → d < 256
-outer_place s a e = omega (arith, s.outer_dart, outer_below _ a, few s a)
+    pub face_fits : (k ≡ outer → ⊥) → NumberFits (meant h) k q
+    face_fits n = laying_fits p h.accepted outer k outer_number (there l) n q y
+
+    pub face_more : (k ≡ outer → ⊥) → (r : List Turn) → NumberLaid (meant h) k q r → Laying (meant h) (k + 1) r
+    face_more n r z = laying_more p h.accepted outer k outer_number (there l) n q r y z
+
+  pub faces_done : {k : ℕ} (q : List Turn) → h.faces ≤ k → Laying (meant h) k q → PlanHeld (meant h) q
+  faces_done {k} q l y = y ∙ ap (λ (x : List ℕ). lines p [] [] (lead p p.outer ∷ without (lead p p.outer) x)) (take_all k (faces p) (omega (arith, h.stands.face_count)))

@@ -2,8 +2,8 @@
 use mathlib.Core.Path.{◌≡◌, sym, ◌∙◌}
 use mathlib.Core.List.{List}
 use Prim.Native.Nat.{ℕ, zero, suc}
-use Rattle.plates.specs.declared.Shaped.{Shaped}
-use Rattle.plates.specs.declared.Listed.{Listed}
+use Rattle.plates.specs.Answers.{Shaped}
+use Rattle.plates.specs.Answers.{Listed}
 use Rattle.plates.specs.Texts.{write_fault, WriteWith, WriteSays, read_fault, ReadWith, ReadSays}
 
 write_with : (f : ℕ) (s t o o₁ o₂ : List ℕ) (r q : Listed) → WriteWith f s t o o₁ r → WriteWith f s t o o₂ q → (o₁ ≡ o₂) × (r ≡ q)

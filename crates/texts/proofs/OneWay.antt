@@ -3,11 +3,13 @@ use mathlib.Core.Path.{◌≡◌, refl, ap, ◌∙◌}
 use mathlib.Core.Bool.{Bool, true, false, ◌&&◌, ◌||◌}
 use mathlib.Core.List.{List, [], ◌∷◌}
 use mathlib.Core.Logic.{⊎_elim}
-use Prim.Native.Nat.{ℕ, zero, suc, ◌+◌, ◌-◌, ◌%◌, ◌<◌, min}
+use Prim.Native.Nat.{ℕ, zero, suc, ◌+◌, ◌-◌, ◌/◌, ◌%◌, ◌<◌, min}
 use native.Mathlib.Omega.{arith}
 use lib.Dec.{ltb}
 use lib.ListN.{length, get_or}
 use borrow.Author.Tests.{ltb-true, ltb-false}
+use Rattle.std.specs.List.{list_any}
+use Rattle.std.specs.Simd.{first_chunks}
 use Rattle.finite.proofs.Tests.{or_left_false, or_right_false, not_true_false, and_left, and_right}
 use Rattle.embedding.proofs.Rotation.{twin_cases}
 use Rattle.plates.specs.Plates.{twin}
@@ -49,6 +51,15 @@ ways_none (x ∷ []) h = refl
 ways_none (x ∷ (y ∷ rs)) h =
     ap (λ (b : Bool). b || both_ways rs) (zero_one x y (h 0 refl (omega arith)))
     ∙ ways_none rs (λ d e l. h (suc (suc d)) (omega arith) (omega arith))
+
+-- strips as pairs
+pub ways_any : (k : ℕ) (rs : List ℕ) → length rs / 2 ≡ k → list_any (λ p. ltb 0 (get_or p 0 0) && ltb 0 (get_or p 1 0)) (first_chunks 2 k rs) ≡ both_ways rs
+ways_any zero [] e = refl
+ways_any zero (x ∷ []) e = refl
+ways_any zero (x ∷ (y ∷ rs)) e = absurd (omega arith)
+ways_any (suc k) [] e = absurd (omega arith)
+ways_any (suc k) (x ∷ []) e = absurd (omega arith)
+ways_any (suc k) (x ∷ (y ∷ rs)) e = ap (λ (b : Bool). (ltb 0 x && ltb 0 y) || b) (ways_any k rs (omega arith))
 
 -- words
 pub word_one : (w : List Bool) → is_mixed w ≡ false → min (rights w) (lefts w) ≡ 0

@@ -2,7 +2,7 @@
 use mathlib.Core.Path.{◌≡◌, refl, sym, ap, subst, ◌∙◌}
 use mathlib.Core.Bool.{Bool, true, false}
 use mathlib.Core.List.{List, [], ◌∷◌, ◌++◌, append_assoc, append-nil}
-use Prim.Native.Nat.{ℕ, zero, suc, ◌+◌, ◌*◌, ◌/◌, ◌^◌, ◌≤◌, ◌<◌, min, max}
+use Prim.Native.Nat.{ℕ, zero, suc, ◌+◌, ◌*◌, ◌/◌, ◌%◌, ◌^◌, ◌≤◌, ◌<◌, min, max}
 use native.Mathlib.Decide.{ℕ_discrete}
 use native.Mathlib.Numerals.{add-one}
 use Rattle.std.proofs.Math.Nat.{pow-succ'}
@@ -11,11 +11,15 @@ use lib.ListN.{length, get_or, set, take, drop, replicate, length-append, length
 use lib.Seq.{take-suc, take_all, drop-drop}
 use borrow.Rule.Slice.PartMut.{put_mid}
 use Rattle.std.specs.Prelude.{Option, Some, None, IfNone, IfSome, unwrap_or}
+use Rattle.std.specs.List.{sum_by, range_with_len}
+use Rattle.std.proofs.lemmas.List.FromFn.{sum_by-map-range_with_len_more}
+use mathlib.Core.List.{map, map-id}
 use Rattle.finite.proofs.Members.{in_here, in_more}
 use Rattle.finite.proofs.Sums.{sum_below, sum_over, sum_last}
 use Rattle.fields.specs.Writing.{Written}
 use Rattle.fields.proofs.Puts.{written_none, written_then}
 use Rattle.embedding.proofs.Rotation.{twin_below}
+use Rattle.shapes.specs.Counted.{Counted}
 use Rattle.plates.specs.Plates.{is_in, twin}
 use Rattle.plates.specs.Shapes.{some_false, even_word}
 use Rattle.plates.specs.Listing.{decimal}
@@ -171,18 +175,21 @@ pub record Printing (a r : List ℕ) (ts : List Turn) (out₀ out : List ℕ) (a
 pub printing_none : (a r : List ℕ) (ts : List Turn) (out : List ℕ) → Printing a r ts out out 0 0
 printing_none a r ts out = record { written = written_none 0 out; same_long = refl }
 
-module _ {a r : List ℕ} {ts : List Turn} {out₀ out : List ℕ} {at i : ℕ} (room : PrintRoom ts a r (length out₀)) (done : Printing a r ts out₀ out at i) (l : i < length ts) where
+module _ {a r : List ℕ} {ts : List Turn} {out₀ out : List ℕ} {at i : ℕ} (counted : Counted a r) (room : PrintRoom ts a r (length out₀)) (done : Printing a r ts out₀ out at i) (l : i < length ts) where
   abbrev turn : Turn
   turn = get_or ts i none_turn
 
   pub d_below : turn.dart < length r
   d_below = room.below i none_turn l
 
+  even : length r % 2 ≡ 0
+  even = omega (arith, counted.same_length, counted.even_length)
+
   pub twin_below_r : twin turn.dart < length r
-  twin_below_r = twin_below (length r) turn.dart room.straight.even d_below
+  twin_below_r = twin_below (length r) turn.dart even d_below
 
   pub d_angle : turn.dart < length a
-  d_angle = omega (arith, d_below, room.straight.same_long)
+  d_angle = omega (arith, d_below, counted.same_length)
 
   -- the entry of turn i, as the code holds it
   abbrev turn_entry : Held
@@ -190,7 +197,7 @@ module _ {a r : List ℕ} {ts : List Turn} {out₀ out : List ℕ} {at i : ℕ} 
 
   pub entry_room : EntryRoom turn_entry at (length out)
   entry_room = record {
-    one_way = one_way r room.straight.even room.straight.one_way turn.dart d_below;
+    one_way = one_way r even room.straight.one_way turn.dart d_below;
     angle_most = (angle_in a room.straight.angles-ok turn.dart d_angle).1;
     enough = omega (arith, done.written.behind, done.same_long, room.enough, room_for a r ts i l);
   }
@@ -211,6 +218,16 @@ long_more d r = ap (λ (n : ℕ). long_up_to n r) (add-one d)
 pub long_sum : (n : ℕ) (r : List ℕ) → long_up_to n r ≡ sum_below n (entry_long r)
 long_sum zero r = refl
 long_sum (suc n) r = omega (arith, long_sum n r, sum_last n (entry_long r))
+
+-- as the library adds them up
+pub long_by : (n : ℕ) (r : List ℕ) → sum_by (entry_long r) (range_with_len 0 n) ≡ long_up_to n r
+long_by n r = ap (sum_by (entry_long r)) (sym (map-id (range_with_len 0 n))) ∙ counted n
+  where
+    counted : (n : ℕ) → sum_by (entry_long r) (map (λ d. d) (range_with_len 0 n)) ≡ long_up_to n r
+    counted zero = refl
+    counted (suc n) =
+        ap (λ (k : ℕ). sum_by (entry_long r) (map (λ d. d) (range_with_len 0 k))) (sym (add-one n))
+        ∙ sum_by-map-range_with_len_more (entry_long r) (λ d. d) 0 n n (omega arith) ∙ ap (λ (k : ℕ). k + entry_long r n) (counted n)
 
 pub count_sum : (a r : List ℕ) (xs : List Entry) → length (text_of (count_entries a r xs)) ≡ sum_over (darts_of xs) (entry_long r)
 count_sum a r [] = refl

@@ -9,32 +9,36 @@ use lib.ListN.{length, get_or, take}
 use lib.Seq.{ext_get_or, get_or-take, length-take-le}
 use borrow.Author.Tests.{not-false}
 use Rattle.finite.proofs.Tests.{and_left, first_none, when_none, first_some, first_assoc}
-use Rattle.fields.specs.declared.Fields.{Fields}
 use Rattle.embedding.proofs.Degrees.{darts_few}
 use Rattle.shapes.specs.Claims.{Accepted}
 use Rattle.shapes.specs.Judge.{judgement}
 use Rattle.shapes.proofs.Accepted.{faultless, ordered}
 use Rattle.shapes.proofs.Words.{rights_at, rights_long}
-use Rattle.plates.specs.declared.Shaped.{Shaped}
+use Rattle.plates.specs.Answers.{Shaped, shaped, shaped_of}
 use Rattle.plates.specs.Plates.{Plate, pick_t, first_of, when, distinct, darts, faces}
 use Rattle.plates.specs.Shapes.{Shape, rights, rights_of, total, posts_ok, faces_ok, twins_ok_from, pair_sums, all_within, shape_of}
 use Rattle.plates.specs.Files.{list_fault, plate_of, limits_of}
 use Rattle.plates.specs.Says.{over, file_long}
-use Rattle.plates.specs.Read.{Walked}
-use Rattle.plates.specs.Encodes.{FileGiven, FileSays, refused_shape}
+use Rattle.plates.specs.Encodes.{FileGiven, FileSays}
 use Rattle.plates.specs.Text.{Entry, all_formed}
 use Rattle.plates.specs.Grammar.{form_ok, entries_in}
 use Rattle.plates.specs.Lines.{face_entries, same_faces, some_mixed, word_of, words_by, angles_by, darts_of}
 use Rattle.plates.specs.Texts.{words_read, placed_fault, text_fault, bytes_read, read_fault, ReadWith, ReadSays}
 use Rattle.texts.specs.Plan.{laid, PlanHeld}
-use Rattle.std.specs.Prelude.{Result}
-use Rattle.refusals.specs.Numbers.{fault_of}
+use Rattle.std.specs.Prelude.{Result, Err}
+use Rattle.embedding.specs.Read.{meant}
+use Rattle.embedding.specs.declared.Plate.{Plate as Held}
+use Rattle.plates.specs.declared.reading.PlateList.{PlateList}
+use Rattle.plates.specs.declared.encoding.Written.{Written}
+use Rattle.refusals.specs.Numbers.{number_of}
+use Rattle.refusals.proofs.Numbered.{some_number}
 use Rattle.refusals.specs.declared.Refusal.{Refusal}
-use Rattle.texts.specs.Parses.{Tables, IsPlan, entries_fault, twin_counts, ParsedBy}
+use Rattle.texts.specs.Parses.{Tables, TablesOf, IsPlan, entries_fault, twin_counts}
 use Rattle.texts.specs.Reads.{counted_fault}
 use Rattle.texts.specs.declared.planning.Turn.{Turn}
 use Rattle.texts.specs.declared.parsing.Counted.{Counted}
 use Rattle.texts.proofs.Grammar.{exact}
+use Rattle.texts.proofs.FaceLeads.{dart_bounds}
 use Rattle.texts.proofs.Refill.{word_fits, angles_long, words_long, angle_at, word_at_lem}
 use Rattle.texts.proofs.Around.{plan_darts, all-distinct}
 use Rattle.texts.proofs.OneWay.{word-long}
@@ -141,117 +145,107 @@ module _ (p : Plate) (ls t : List ℕ) where
           go true e = judged e
           go false e = refl
 
--- the counts' refusals, one after the other
-module _ (p : Plate) (ls : List ℕ) (n : ℕ) (a₀ r₀ l₀ : List ℕ) {w : Bool} (w-is : w ≡ twin_counts n 0 r₀ l₀) where
-  abbrev past : ℕ
-  past = when (not (all_within ls (pair_sums (take n r₀)))) 25
-
-  abbrev rest : ℕ
-  rest = first_of (judgement p (take n a₀) (take n r₀)) past
-
-  pub twins_fault : w ≡ false → 32 ≡ counted_fault p ls n a₀ r₀ l₀
-  twins_fault f = sym (ap (λ (b : Bool). first_of (when (not b) 32) rest) (sym w-is ∙ f))
-
-  module _ (t : w ≡ true) {j : ℕ} (j-is : j ≡ judgement p (take n a₀) (take n r₀)) where
-    after_twins : counted_fault p ls n a₀ r₀ l₀ ≡ rest
-    after_twins = ap (λ (b : Bool). first_of (when (not b) 32) rest) (sym w-is ∙ t)
-
-    pub judged_fault : (j ≡ 0 → ⊥) → j ≡ counted_fault p ls n a₀ r₀ l₀
-    judged_fault m = j-is ∙ sym (after_twins ∙ first_some (judgement p (take n a₀) (take n r₀)) past (λ z. m (j-is ∙ z)))
-
-    module _ (z : j ≡ 0) {v : Bool} (v-is : v ≡ all_within ls (pair_sums (take n r₀))) where
-      by_limits : counted_fault p ls n a₀ r₀ l₀ ≡ when (not v) 25
-      by_limits = after_twins ∙ ap (λ (k : ℕ). first_of k past) (sym j-is ∙ z) ∙ ap (λ (b : Bool). when (not b) 25) (sym v-is)
-
-      pub limits-fault : v ≡ false → 25 ≡ counted_fault p ls n a₀ r₀ l₀
-      limits-fault f = sym (by_limits ∙ ap (λ (b : Bool). when (not b) 25) f)
-
-      pub no_counted_fault : v ≡ true → 0 ≡ counted_fault p ls n a₀ r₀ l₀
-      no_counted_fault f = sym (by_limits ∙ ap (λ (b : Bool). when (not b) 25) f)
-
 -- a plan that is held
-module _ (p : Plate) (acc : Accepted p) (q : List Turn) (held : PlanHeld p q) where
-  pub plan_once : IsPlan (laid q)
-  plan_once = ap (λ (x : List Entry). distinct (darts_of x)) held ∙ ap distinct (plan_darts p) ∙ all-distinct p (ordered p acc) (outer_below p acc)
-
-  pub fault-of : {t : List ℕ} {r : Result Counted Refusal} → ParsedBy (laid q) t r → fault_of r ≡ entries_fault (face_entries p [] []) t
-  fault-of {t} {r} h = h.number ∙ ap (λ (x : List Entry). entries_fault x t) held
+pub plan_once : (h : Held) (q : List Turn) → PlanHeld (meant h) q → IsPlan (laid q)
+plan_once h q held =
+    let p = meant h in
+    let o = ordered p h.accepted in
+    ap (λ (x : List Entry). distinct (darts_of x)) held ∙ ap distinct (plan_darts p) ∙ all-distinct p o (outer_below p h.accepted)
 
 -- right bends that each fit a byte
 total_most : (xs : List ℕ) → ((i : ℕ) → i < length xs → get_or xs i 0 ≤ 255) → total xs ≤ 255 * length xs
 total_most [] h = omega arith
 total_most (x ∷ xs) h = omega (arith, h 0 (omega arith), total_most xs (λ i l. h (suc i) (omega arith)))
 
-refused_with : (s t o : List ℕ) (e : ℕ) → (e ≡ 0 → ⊥) → ReadWith e s t o o (refused_shape e)
-refused_with s t o zero n = absurd (n refl)
-refused_with s t o (suc e) n = (refl, refl, refl, refl)
+-- the refusals of a call
+module _ (s t o : List ℕ) where
+  abbrev short : ℕ
+  short = when (ltb (length o) (file_long s)) 16
 
-module _ (s t : List ℕ) (acc : Accepted (plate_of s)) where
+  refused_with : (e : ℕ) → (e ≡ 0 → ⊥) → ReadWith e s t o o (shaped e 0 0)
+  refused_with zero n = absurd (n refl)
+  refused_with (suc e) n = (refl, refl, refl, refl)
+
+  module _ {v : Result Written Refusal} {r : Refusal} (is : v ≡ Err r) where
+    refused_read : number_of r ≡ text_fault s t → ReadSays s t o o (shaped_of v)
+    refused_read q =
+        subst (λ (w : Result Written Refusal). ReadSays s t o o (shaped_of w)) (sym is)
+        (subst (λ (k : ℕ). ReadWith k s t o o (shaped (number_of r) 0 0)) (q ∙ sym (first_some (text_fault s t) short (λ z. some_number r (q ∙ z)))) (refused_with (number_of r) (some_number r)))
+
+    pub list_refused_read : number_of r ≡ list_fault s → ReadSays s t o o (shaped_of v)
+    list_refused_read q = refused_read (q ∙ sym (first_some (list_fault s) _ (λ z. some_number r (q ∙ z))))
+
+-- of an accepted list of bytes s, and a plan that is held
+module _ (l : PlateList) {s : List ℕ} (bytes : l.bytes.now ≡ s) (t o : List ℕ) (plan : List Turn) (held : PlanHeld (meant l.plate) plan) where
   abbrev p₂ : Plate
   p₂ = plate_of s
 
-  abbrev short : List ℕ → ℕ
-  short o = when (ltb (length o) (file_long s)) 16
+  table : meant l.plate ≡ p₂
+  table = l.table ∙ ap plate_of bytes
 
-  refused_read : (e : ℕ) (o : List ℕ) {v : Shaped} → text_fault s t ≡ e → (e ≡ 0 → ⊥) → v ≡ refused_shape e → ReadSays s t o o v
-  refused_read e o {v} q n v-is =
-      let f : read_fault s t o ≡ e = first_some (text_fault s t) (short o) (λ z. n (sym q ∙ z)) ∙ q in
-      subst₂ (λ (k : ℕ) (w : Shaped). ReadWith k s t o o w) (sym f) (sym v-is) (refused_with s t o e n)
+  list_ok : list_fault s ≡ 0
+  list_ok = ap list_fault (sym bytes) ∙ l.accepted
 
-  module _ (list_ok : list_fault s ≡ 0) where
-    past_list : text_fault s t ≡ placed_fault p₂ (limits_of s) t
-    past_list = ap (λ (k : ℕ). first_of k (placed_fault p₂ (limits_of s) t)) list_ok
+  acc : Accepted p₂
+  acc = subst Accepted table l.plate.accepted
 
-    pub text_refused : {e : ℕ} (o : List ℕ) {v : Shaped} → e ≡ entries_fault (face_entries p₂ [] []) t → (e ≡ 0 → ⊥) → v ≡ refused_shape e → ReadSays s t o o v
-    text_refused {e} o q n = refused_read e o (past_list ∙ entries_refused p₂ (limits_of s) t e q n) n
+  past_list : text_fault s t ≡ placed_fault p₂ (limits_of s) t
+  past_list = ap (λ (k : ℕ). first_of k (placed_fault p₂ (limits_of s) t)) list_ok
 
-    module _ (none : entries_fault (face_entries p₂ [] []) t ≡ 0) {n : ℕ} (n-is : n ≡ darts p₂) {ca cr cl : List ℕ} (tables : Tables (entries_in t) ca cr cl) where
-      abbrev counted_by : List ℕ → ℕ
-      counted_by ls = counted_fault p₂ ls n ca cr cl
+  entries_are : entries_fault (laid plan) t ≡ entries_fault (face_entries p₂ [] []) t
+  entries_are = ap (λ (x : List Entry). entries_fault x t) held ∙ ap (λ (p : Plate). entries_fault (face_entries p [] []) t) table
 
-      pub counts_refused : {e : ℕ} (o : List ℕ) {v : Shaped} {ls : List ℕ} → ls ≡ limits_of s → e ≡ counted_by ls → (e ≡ 0 → ⊥) → v ≡ refused_shape e → ReadSays s t o o v
-      counts_refused {e} o limits q m = refused_read e o (past_list ∙ sym (counted_is p₂ (limits_of s) t acc none n-is tables) ∙ sym (q ∙ ap counted_by limits)) m
+  pub text_refused : {v : Result Written Refusal} {r : Refusal} → v ≡ Err r → number_of r ≡ entries_fault (laid plan) t → ReadSays s t o o (shaped_of v)
+  text_refused {v} {r} is q = refused_read s t o is (q ∙ entries_are ∙ sym (past_list ∙ entries_refused p₂ (limits_of s) t (number_of r) (q ∙ entries_are) (some_number r) ∙ q ∙ entries_are))
 
-      n_fits : n ≤ 256
-      n_fits = omega (arith, darts_few p₂ (faultless p₂ acc) (ordered p₂ acc))
+  module _ (got : 0 ≡ entries_fault (laid plan) t) {c : Counted} (tables : TablesOf (entries_in t) c) where
+    abbrev counted : ℕ
+    counted = counted_fault (plate_of l.bytes.now) (limits_of l.bytes.now) l.plate.darts c.angles c.rights c.lefts
 
-      pub file_given : {f : Fields} → Walked s f → FileGiven s f (take n ca) (take n cr) (total (take n cr))
-      file_given w =
-          let long-a = length-take-le n ca (omega (arith, tables.angles.size, n_fits)) in
-          let long-r = length-take-le n cr (omega (arith, tables.rights.size, n_fits)) in
-          let all = (exact.read t (form p₂ (limits_of s) t acc none)).1 in
-          record {
-            walked = w;
-            angles_many = long-a ∙ n-is;
-            rights_many = long-r ∙ n-is;
-            sum = refl;
-            few = omega (
-              arith,
-              n_fits,
-              long-r,
-              total_most (take n cr) (λ i l.
-                  let k : i < n = omega (arith, long-r) in
-                  let wd = word_of i (entries_in t) in
-                  omega (arith, get_or-take n cr i 0 k, tables.rights.at i (omega (arith, n_fits)), word-long wd, word_fits i (entries_in t) (and_left (all_formed (entries_in t)) _ all))),
-            );
-          }
+    none : entries_fault (face_entries p₂ [] []) t ≡ 0
+    none = sym (got ∙ entries_are)
 
-      pub file_read : (o o' : List ℕ) (v : Shaped) {ls : List ℕ} → ls ≡ limits_of s → counted_by ls ≡ 0 → FileSays s (take n ca) (take n cr) o o' v → ReadSays s t o o' v
-      file_read o o' v limits z said =
-          go (ltb (length o) (file_long s)) refl
-          (subst₂ (λ (a r : List ℕ). FileSays s a r o o' v) (angles_taken p₂ (limits_of s) t acc none n-is tables) (rights_taken p₂ (limits_of s) t acc none n-is tables) said)
-        where
-          fault_is : read_fault s t o ≡ short o
-          fault_is = ap (λ (k : ℕ). first_of k (short o)) (past_list ∙ sym (counted_is p₂ (limits_of s) t acc none n-is tables) ∙ sym (ap counted_by limits) ∙ z)
+    n-is : l.plate.darts ≡ darts p₂
+    n-is = l.plate.stands.dart_count ∙ ap darts table
 
-          go : (b : Bool) → ltb (length o) (file_long s) ≡ b
-              → pick_t b ((v.number ≡ 16) × (v.long ≡ 0) × (v.bends ≡ 0) × (o' ≡ o))
-              ((v.number ≡ 0) × (v.long ≡ length (bytes_read s t)) × (v.bends ≡ total (rights_of (words_read s t))) × (o' ≡ over (bytes_read s t) o))
-              → ReadSays s t o o' v
-          go true e h = subst (λ (k : ℕ). ReadWith k s t o o' v) (sym (fault_is ∙ ap (λ (b : Bool). when b 16) e)) h
-          go false e h = subst (λ (k : ℕ). ReadWith k s t o o' v) (sym (fault_is ∙ ap (λ (b : Bool). when b 16) e)) h
+    by_counts : text_fault s t ≡ counted
+    by_counts = past_list ∙ sym (counted_is p₂ (limits_of s) t acc none n-is tables) ∙ ap (λ (b : List ℕ). counted_fault (plate_of b) (limits_of b) l.plate.darts c.angles c.rights c.lefts) (sym bytes)
 
-pub list_refused_read : (s t o : List ℕ) {e : ℕ} {v : Shaped} → e ≡ list_fault s → (e ≡ 0 → ⊥) → v ≡ refused_shape e → ReadSays s t o o v
-list_refused_read s t o {e} {v} q n v-is =
-    let f : read_fault s t o ≡ e = ap (λ (k : ℕ). first_of k (when (ltb (length o) (file_long s)) 16)) (first_some (list_fault s) (placed_fault (plate_of s) (limits_of s) t) (λ z. n (q ∙ z))) ∙ first_some (list_fault s) _ (λ z. n (q ∙ z)) ∙ sym q in
-    subst₂ (λ (k : ℕ) (w : Shaped). ReadWith k s t o o w) (sym f) (sym v-is) (refused_with s t o e n)
+    pub counts_refused : {v : Result Written Refusal} {r : Refusal} → v ≡ Err r → number_of r ≡ counted_fault (plate_of l.bytes.now) (limits_of l.bytes.now) l.plate.darts c.angles c.rights c.lefts → ReadSays s t o o (shaped_of v)
+    counts_refused is q = refused_read s t o is (q ∙ sym by_counts)
+
+    pub file_given : {a r : List ℕ} → a ≡ take l.plate.darts c.angles → r ≡ take l.plate.darts c.rights → FileGiven l.plate.darts a r
+    file_given {a} {r} a-is r-is =
+        let n = l.plate.darts in
+        let most = (dart_bounds l.plate).1 in
+        let long : length r ≡ n = ap length r-is ∙ length-take-le n c.rights (omega (arith, tables.rights.size)) in
+        let all = (exact.read t (form p₂ (limits_of s) t acc none)).1 in
+        record {
+          angles_many = ap length a-is ∙ length-take-le n c.angles (omega (arith, tables.angles.size));
+          few = omega (
+            arith,
+            most,
+            long,
+            total_most r (λ i k.
+                let w = word_of i (entries_in t) in
+                let at : get_or r i 0 ≡ get_or (take n c.rights) i 0 = ap (λ (x : List ℕ). get_or x i 0) r-is in
+                omega (arith, at, get_or-take n c.rights i 0 (omega (arith, long)), tables.rights.at i (omega arith), word-long w, word_fits i (entries_in t) (and_left (all_formed (entries_in t)) _ all))),
+          );
+        }
+
+    pub file_read : {a r : List ℕ} (o' : List ℕ) (v : Shaped) → 0 ≡ counted_fault (plate_of l.bytes.now) (limits_of l.bytes.now) l.plate.darts c.angles c.rights c.lefts
+        → a ≡ take l.plate.darts c.angles → r ≡ take l.plate.darts c.rights → FileSays l.bytes.now a r o o' v → ReadSays s t o o' v
+    file_read {a} {r} o' v z a-is r-is said =
+        go (ltb (length o) (file_long s)) refl
+        (subst₂ (λ (x y : List ℕ). FileSays s x y o o' v) (a-is ∙ angles_taken p₂ (limits_of s) t acc none n-is tables) (r-is ∙ rights_taken p₂ (limits_of s) t acc none n-is tables)
+        (subst (λ (b : List ℕ). FileSays b a r o o' v) bytes said))
+      where
+        fault_is : read_fault s t o ≡ short s t o
+        fault_is = ap (λ (k : ℕ). first_of k (short s t o)) (by_counts ∙ sym z)
+
+        go : (b : Bool) → ltb (length o) (file_long s) ≡ b
+            → pick_t b ((v.number ≡ 16) × (v.long ≡ 0) × (v.bends ≡ 0) × (o' ≡ o))
+            ((v.number ≡ 0) × (v.long ≡ length (bytes_read s t)) × (v.bends ≡ total (rights_of (words_read s t))) × (o' ≡ over (bytes_read s t) o))
+            → ReadSays s t o o' v
+        go true e h = subst (λ (k : ℕ). ReadWith k s t o o' v) (sym (fault_is ∙ ap (λ (b : Bool). when b 16) e)) h
+        go false e h = subst (λ (k : ℕ). ReadWith k s t o o' v) (sym (fault_is ∙ ap (λ (b : Bool). when b 16) e)) h

@@ -6,7 +6,7 @@ use Prim.Native.Nat.{ℕ}
 use lib.ListN.{take}
 use Rattle.finite.proofs.Tests.{first_none}
 use Rattle.fields.proofs.PassedOver.{passed_over}
-use Rattle.plates.specs.declared.Shaped.{Shaped}
+use Rattle.plates.specs.Answers.{Shaped}
 use Rattle.plates.specs.Shapes.{rights_of, shape_of}
 use Rattle.plates.specs.Files.{walk_all, list_fault, plate_of, limits_of, shape_bytes}
 use Rattle.plates.specs.Claims.{BestOf}

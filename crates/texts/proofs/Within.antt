@@ -4,8 +4,8 @@ use mathlib.Core.List.{List}
 use Prim.Native.Nat.{ℕ, zero, suc, ◌≤◌}
 use native.Mathlib.Omega.{arith}
 use lib.ListN.{length, drop, length-append}
-use Rattle.plates.specs.declared.Shaped.{Shaped}
-use Rattle.plates.specs.declared.Listed.{Listed}
+use Rattle.plates.specs.Answers.{Shaped}
+use Rattle.plates.specs.Answers.{Listed}
 use Rattle.plates.specs.Says.{over}
 use Rattle.plates.specs.Texts.{file_text, bytes_read, write_fault, WriteWith, WriteSays, read_fault, ReadWith, ReadSays}
 

@@ -1,52 +1,53 @@
 -- What writing a text promises, from what its steps give: the list's refusal, the file's, the counts', 31, 16, or the text. Assumes nothing.
-use mathlib.Core.Path.{◌≡◌, refl, sym, ap, subst, subst₂, ◌∙◌}
-use mathlib.Core.Bool.{Bool, true, false, not}
+use mathlib.Core.Path.{◌≡◌, refl, sym, ap, subst, ◌∙◌}
+use mathlib.Core.Bool.{Bool, true, false, ◌&&◌, not}
 use mathlib.Core.List.{List}
-use Prim.Native.Nat.{ℕ, zero, suc, ◌%◌}
-use native.Mathlib.Omega.{arith}
-use lib.Dec.{ltb}
+use Prim.Native.Nat.{ℕ, zero, suc}
+use lib.Dec.{eqb, ltb}
 use lib.ListN.{length}
-use borrow.Author.Tests.{not-false}
-use Rattle.finite.proofs.Tests.{first_none, when_none, first_some}
-use Rattle.fields.specs.declared.Fields.{Fields}
-use Rattle.embedding.specs.declared.Plate.{Plate as Held}
+use borrow.Author.Tests.{not-false, eqb-true}
+use Rattle.std.specs.Prelude.{Result, Err}
+use Rattle.finite.proofs.Tests.{and_left, first_none, when_none, first_some}
+use Rattle.refusals.specs.Numbers.{number_of}
+use Rattle.refusals.specs.declared.Refusal.{Refusal}
+use Rattle.refusals.specs.declared.Refusal.TheVariants.{MixedWord}
+use Rattle.refusals.proofs.Numbered.{some_number}
 use Rattle.shapes.specs.Judge.{judgement}
-use Rattle.plates.specs.declared.Listed.{Listed}
-use Rattle.plates.specs.Plates.{pick_t, first_of, when}
+use Rattle.plates.specs.Plates.{pick_t, first_of, when, darts}
 use Rattle.plates.specs.Shapes.{angles_ok, shape_of}
-use Rattle.plates.specs.Files.{list_fault, plate_of}
+use Rattle.plates.specs.Files.{walk_all, list_fault, plate_of}
 use Rattle.plates.specs.Says.{over, angles_in, rights_in, check_fault}
-use Rattle.plates.specs.Read.{shape_file_fault, Readable}
+use Rattle.plates.specs.Read.{shape_file_fault}
 use Rattle.plates.specs.Listing.{Gives}
-use Rattle.plates.specs.Answers.{listed}
+use Rattle.plates.specs.Answers.{Listed, listed, listed_of}
 use Rattle.plates.proofs.CheckSound.{places, judged_then, later}
-use Rattle.plates.proofs.Calls.{read_stands}
 use Rattle.plates.specs.Lines.{face_text, both_ways}
+use Rattle.plates.specs.declared.reading.ShapeFile.{ShapeFile}
+use Rattle.embedding.specs.Read.{meant}
+use Rattle.texts.specs.Prints.{Straight}
 use Rattle.plates.specs.Texts.{file_text, write_fault, WriteWith, WriteSays}
-use Rattle.texts.specs.Prints.{PrintCounts}
-use Rattle.texts.proofs.FaceLeads.{few}
 
 module _ (s t o : List ℕ) where
   refused_with : (e : ℕ) → (e ≡ 0 → ⊥) → WriteWith e s t o o (listed e 0)
   refused_with zero n = absurd (n refl)
   refused_with (suc e) n = (refl, refl, refl)
 
-  refused_write : (e : ℕ) → write_fault s t o ≡ e → (e ≡ 0 → ⊥) → WriteSays s t o o (listed e 0)
-  refused_write e q n = subst (λ (k : ℕ). WriteWith k s t o o (listed e 0)) (sym q) (refused_with e n)
+  module _ {v : Result ℕ Refusal} {r : Refusal} (is : v ≡ Err r) where
+    refused_write : number_of r ≡ write_fault s t o → WriteSays s t o o (listed_of v)
+    refused_write q =
+        subst (λ (w : Result ℕ Refusal). WriteSays s t o o (listed_of w)) (sym is)
+        (subst (λ (k : ℕ). WriteWith k s t o o (listed (number_of r) 0)) q (refused_with (number_of r) (some_number r)))
 
-  -- the check's number, the list's or the shape file's own
-  check_refused : (e : ℕ) → check_fault s t ≡ e → (e ≡ 0 → ⊥) → WriteSays s t o o (listed e 0)
-  check_refused e q n = refused_write e (first_some (check_fault s t) _ (λ z. n (sym q ∙ z)) ∙ q) n
+    -- the check's number, the list's or the shape file's own
+    pub check_refused : number_of r ≡ check_fault s t → WriteSays s t o o (listed_of v)
+    check_refused q = refused_write (q ∙ sym (first_some (check_fault s t) _ (λ z. some_number r (q ∙ z))))
 
-  pub list_refused_write : (e : ℕ) → e ≡ list_fault s → (e ≡ 0 → ⊥) → WriteSays s t o o (listed e 0)
-  list_refused_write e q n = check_refused e (places s t ∙ first_some (list_fault s) _ (λ z. n (q ∙ z)) ∙ sym q) n
+    pub list_refused_write : number_of r ≡ list_fault s → WriteSays s t o o (listed_of v)
+    list_refused_write q = check_refused (q ∙ sym (places s t ∙ first_some (list_fault s) _ (λ z. some_number r (q ∙ z))))
 
-  pub file_refused_write : list_fault s ≡ 0 → (e : ℕ) → e ≡ shape_file_fault s t → (e ≡ 0 → ⊥) → WriteSays s t o o (listed e 0)
-  file_refused_write none e q n =
-      check_refused e (places s t ∙ ap (λ (k : ℕ). first_of k (first_of (shape_file_fault s t) (judged_then s t))) none ∙ first_some (shape_file_fault s t) (judged_then s t) (λ z. n (q ∙ z)) ∙ sym q) n
-
-  pub counts_refused : {e : ℕ} {v : Listed} → e ≡ check_fault s t → (e ≡ 0 → ⊥) → v ≡ listed e 0 → WriteSays s t o o v
-  counts_refused {e} {v} q n v-is = subst (λ (w : Listed). WriteSays s t o o w) (sym v-is) (check_refused e (sym q) n)
+    pub file_refused_write : 0 ≡ list_fault s → number_of r ≡ shape_file_fault s t → WriteSays s t o o (listed_of v)
+    file_refused_write none q =
+        check_refused (q ∙ sym (places s t ∙ ap (λ (k : ℕ). first_of k (first_of (shape_file_fault s t) (judged_then s t))) (sym none) ∙ first_some (shape_file_fault s t) (judged_then s t) (λ z. some_number r (q ∙ z))))
 
   -- a sound file: 31, then 16
   module _ (sound : check_fault s t ≡ 0) where
@@ -56,9 +57,8 @@ module _ (s t o : List ℕ) where
     past_check : write_fault s t o ≡ first_of (when (both_ways (rights_in t)) 31) short
     past_check = ap (λ (k : ℕ). first_of k (first_of (when (both_ways (rights_in t)) 31) short)) sound
 
-    pub mixed_refused : {v : Listed} → both_ways (rights_in t) ≡ true → v ≡ listed 31 0 → WriteSays s t o o v
-    mixed_refused {v} e v-is =
-        subst (λ (w : Listed). WriteSays s t o o w) (sym v-is) (refused_write 31 (past_check ∙ ap (λ (b : Bool). first_of (when b 31) short) e) (λ z. omega (arith, z)))
+    mixed_refused : both_ways (rights_in t) ≡ true → WriteSays s t o o (listed_of (Err MixedWord))
+    mixed_refused e = refused_write {r = MixedWord} refl (sym (past_check ∙ ap (λ (b : Bool). first_of (when b 31) short) e))
 
     text_written : (o' : List ℕ) (r : Listed) → both_ways (rights_in t) ≡ false → Gives (file_text s t) o o' r → WriteSays s t o o' r
     text_written o' r one g = go (ltb (length o) (length (file_text s t))) refl g
@@ -72,41 +72,50 @@ module _ (s t o : List ℕ) where
         go true e h = subst (λ (k : ℕ). WriteWith k s t o o' r) (sym (fault_is ∙ ap (λ (b : Bool). when b 16) e)) h
         go false e h = subst (λ (k : ℕ). WriteWith k s t o o' r) (sym (fault_is ∙ ap (λ (b : Bool). when b 16) e)) h
 
--- the counts of a sound shape file: 31, or its text
-module _ {s : List ℕ} {f : Fields} {h : Held} {t : List ℕ} {g : Fields} (readable : Readable s f h t g) {r : List ℕ} (rights : r ≡ rights_in t)
-    {number : ℕ} (fault : number ≡ check_fault s t) (z : number ≡ 0) {both : Bool} (ways : both ≡ both_ways r) where
+-- a shape file that was read has an angle for each dart
+pub counts_many : (f : ShapeFile) → length f.counts.angles.now ≡ f.list.plate.darts
+counts_many f =
+    let l = f.list in
+    let p = plate_of l.bytes.now in
+    let a = angles_in f.bytes.now in
+    let r = rights_in f.bytes.now in
+    let both = eqb (length a) (darts p) && eqb (length r) (darts p) in
+    let many = not-false both (when_none (not both) 16 (first_none (when (not both) 17) _ (first_none (walk_all true f.bytes.now).number _ f.accepted).1).0) in
+    ap length f.angles ∙ eqb-true (length a) (darts p) (and_left (eqb (length a) (darts p)) _ many) ∙ ap darts (sym l.table) ∙ sym l.plate.stands.dart_count
+
+-- a shape file of bytes t, read for the list of bytes s, past the check
+module _ (f : ShapeFile) {s t : List ℕ} (list : f.list.bytes.now ≡ s) (bytes : f.bytes.now ≡ t) (fault : 0 ≡ check_fault f.list.bytes.now f.bytes.now) where
   sound : check_fault s t ≡ 0
-  sound = sym fault ∙ z
+  sound = (λ i. check_fault (sym list i) (sym bytes i)) ∙ sym fault
 
-  ways_are : both ≡ both_ways (rights_in t)
-  ways_are = ways ∙ ap both_ways rights
+  angles_are : f.counts.angles.now ≡ angles_in t
+  angles_are = f.angles ∙ ap angles_in bytes
 
-  pub both_refused : (o : List ℕ) {v : Listed} → both ≡ true → v ≡ listed 31 0 → WriteSays s t o o v
-  both_refused o e = mixed_refused s t o sound (sym ways_are ∙ e)
+  rights_are : f.counts.rights.now ≡ rights_in t
+  rights_are = f.rights ∙ ap rights_in bytes
 
-  module _ (one : both ≡ false) {a : List ℕ} (angles : a ≡ angles_in t) where
-    angles_fine : angles_ok (angles_in t) ≡ true
-    angles_fine =
-        let judged = (first_none (judgement (plate_of s) (angles_in t) (rights_in t)) _ (sym (later s t readable.no_fault readable.no_file_fault) ∙ sound)).0 in
-        not-false (angles_ok (angles_in t)) (when_none (not (angles_ok (angles_in t))) 18 (first_none (when (not (angles_ok (angles_in t))) 19) _ judged).0)
+  table : meant f.list.plate ≡ plate_of s
+  table = f.list.table ∙ ap plate_of list
 
-    pub to_print : PrintCounts h a r
-    to_print =
-        let stands = readable.plate in
-        let a-many : length a ≡ h.darts = ap length angles ∙ readable.angles_many in
-        let r-many : length r ≡ h.darts = ap length rights ∙ readable.rights_many in
-        record {
-          counts = record { angles_many = a-many; rights_many = r-many; standing = read_stands readable };
-          straight = record {
-            same_long = a-many ∙ sym r-many;
-            even = ap (λ (n : ℕ). n % 2) (r-many ∙ stands.dart_count) ∙ readable.accepted.even_darts;
-            most = omega (arith, r-many, stands.dart_count, few stands readable.accepted);
-            one_way = sym ways ∙ one;
-            angles-ok = ap angles_ok angles ∙ angles_fine;
-          };
-        }
+  angles_sound : angles_ok (angles_in t) ≡ true
+  angles_sound =
+      let none : list_fault s ≡ 0 = ap list_fault (sym list) ∙ f.list.accepted in
+      let no_file : shape_file_fault s t ≡ 0 = (λ i. shape_file_fault (sym list i) (sym bytes i)) ∙ f.accepted in
+      let judged = (first_none (judgement (plate_of s) (angles_in t) (rights_in t)) _ (sym (later s t none no_file) ∙ sound)).0 in
+      not-false (angles_ok (angles_in t)) (when_none (not (angles_ok (angles_in t))) 18 (first_none (when (not (angles_ok (angles_in t))) 19) _ judged).0)
 
-    pub text_said : (o o' : List ℕ) (v : Listed) → Gives (face_text (plate_of s) a (shape_of (plate_of s) a r).words) o o' v → WriteSays s t o o' v
-    text_said o o' v give =
-        text_written s t o sound o' v (sym ways_are ∙ one)
-        (subst₂ (λ (b q : List ℕ). Gives (face_text (plate_of s) b (shape_of (plate_of s) b q).words) o o' v) angles rights give)
+  module _ {both : Bool} (both-is : both ≡ both_ways f.counts.rights.now) where
+    ways : both_ways (rights_in t) ≡ both
+    ways = sym (both-is ∙ ap both_ways rights_are)
+
+    pub both_refused : (o : List ℕ) → both ≡ true → WriteSays s t o o (listed_of (Err MixedWord))
+    both_refused o e = mixed_refused s t o sound (ways ∙ e)
+
+    module _ (one : both ≡ false) where
+      pub counts_straight : Straight f.counts.angles.now f.counts.rights.now
+      counts_straight = record { one_way = sym both-is ∙ one; angles-ok = ap angles_ok angles_are ∙ angles_sound }
+
+      pub text_said : (o o' : List ℕ) (v : Listed) → Gives (face_text (meant f.list.plate) f.counts.angles.now (shape_of (meant f.list.plate) f.counts.angles.now f.counts.rights.now).words) o o' v → WriteSays s t o o' v
+      text_said o o' v give =
+          text_written s t o sound o' v (ways ∙ one)
+          (subst (λ (x : List ℕ). Gives x o o' v) (λ i. face_text (table i) (angles_are i) (shape_of (table i) (angles_are i) (rights_are i)).words) give)

@@ -2,9 +2,7 @@
 use Rattle.std.specs.Prelude.{◌≡◌, Bool, List, [], ◌∷◌, ◌++◌, ℕ, ◌+◌, ◌≤◌, ◌<◌, length, get_or, take}
 use Rattle.finite.specs.Walks.{orbit, OneToOne}
 use Rattle.embedding.specs.Steps.{next_of}
-use Rattle.embedding.specs.Read.{Stands, lead, face_number}
-use Rattle.embedding.specs.declared.Plate.{Plate as Held}
-use Rattle.shapes.specs.Claims.{Accepted}
+use Rattle.embedding.specs.Read.{lead, face_number}
 use Rattle.plates.specs.Plates.{Plate, face_of, faces}
 use Rattle.plates.specs.Text.{Entry, entry}
 use Rattle.plates.specs.Lines.{without, line, lines, face_entries}
@@ -31,13 +29,10 @@ pub record FaceRoom (next : List ℕ) (n start : ℕ) (q : List Turn) : Type 0 w
 abbrev pub FaceLaid : List ℕ → ℕ → ℕ → List Turn → List Turn → Type 0
 FaceLaid next n start q r = laid r ≡ laid q ++ line [] [] (orbit (next_of next) n start)
 
+-- the number of a face, and room for its darts
 pub record NumberFits (p : Plate) (number : ℕ) (q : List Turn) : Type 0 where
   pub there : number < length (faces p)
   pub enough : length q + length (face_of p (get_or (faces p) number 0)) ≤ 256
-
--- the number of a face that has darts, and room for them
-abbrev pub NumberRoom : Held → ℕ → List Turn → Type 0
-NumberRoom h number q = (p : Plate) × Stands h p × Accepted p × NumberFits p number q
 
 -- the face of that number laid
 abbrev pub NumberLaid : Plate → ℕ → List Turn → List Turn → Type 0
@@ -50,9 +45,6 @@ OuterIs p outer = outer ≡ face_number p p.outer
 -- the outer face and, of the first k faces, the others are laid
 abbrev pub Laying : Plate → ℕ → List Turn → Type 0
 Laying p k q = laid q ≡ lines p [] [] (lead p p.outer ∷ without (lead p p.outer) (take k (faces p)))
-
-abbrev pub LayingOn : Held → ℕ → ℕ → List Turn → Type 0
-LayingOn h outer k q = (p : Plate) × Stands h p × Accepted p × OuterIs p outer × Laying p k q × (k < length (faces p))
 
 abbrev pub PlanHeld : Plate → List Turn → Type 0
 PlanHeld p r = laid r ≡ face_entries p [] []

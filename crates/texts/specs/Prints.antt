@@ -1,7 +1,5 @@
 -- A text printed from a plan and counts.
-use Rattle.std.specs.Prelude.{◌≡◌, Bool, true, false, List, ℕ, zero, suc, ◌+◌, ◌%◌, ◌≤◌, ◌<◌, min, length, get_or}
-use Rattle.embedding.specs.declared.Plate.{Plate as HeldPlate}
-use Rattle.shapes.specs.Claims.{Standing}
+use Rattle.std.specs.Prelude.{◌≡◌, Bool, true, false, List, ℕ, zero, suc, ◌+◌, ◌≤◌, ◌<◌, min, length, get_or}
 use Rattle.plates.specs.Plates.{twin}
 use Rattle.plates.specs.Shapes.{angles_ok, even_word}
 use Rattle.plates.specs.Listing.{decimal}
@@ -26,11 +24,8 @@ abbrev pub long_up_to : ℕ → List ℕ → ℕ
 long_up_to zero r = 0
 long_up_to (suc n) r = long_up_to n r + entry_long r n
 
--- an angle and right bends for each dart, no strip bent both ways
+-- no strip bends both ways, and each angle is one
 pub record Straight (a r : List ℕ) : Type 0 where
-  pub same_long : length a ≡ length r
-  pub even : length r % 2 ≡ 0
-  pub most : length r ≤ 256
   pub one_way : both_ways r ≡ false
   pub angles-ok : angles_ok a ≡ true
 
@@ -49,13 +44,3 @@ pub record PrintRoom (ts : List Turn) (a r : List ℕ) (room : ℕ) : Type 0 whe
   pub straight : Straight a r
   pub below : (i : ℕ) (t : Turn) → i < length ts → (get_or ts i t).dart < length r
   pub enough : length (text_of (count_entries a r (laid ts))) ≤ room
-
--- counts for each dart of a held plate
-pub record CountsFor (h : HeldPlate) (a r : List ℕ) : Type 0 where
-  pub angles_many : length a ≡ h.darts
-  pub rights_many : length r ≡ h.darts
-  pub standing : Standing h
-
-pub record PrintCounts (h : HeldPlate) (a r : List ℕ) : Type 0 where
-  pub counts : CountsFor h a r
-  pub straight : Straight a r

@@ -1,5 +1,5 @@
 //! A text read entry by entry against a plan, in one pass.
-ghost use Rattle.std.specs.Prelude.{◌≡◌, List, ◌∷◌, [], ◌++◌, ◌%◌, ◌≤◌};
+ghost use Rattle.std.specs.Prelude.{◌≡◌, List, ◌∷◌, [], ◌++◌, ◌&&◌, ◌%◌, ◌≤◌, ◌<◌, eqb, get_or, take};
 ghost use Rattle.plates.specs.Text.{Entry as EntryOf};
 ghost use Rattle.texts.specs.Plan.{laid};
 ghost use Rattle.texts.specs.Parses.{GotIs, FilledBy, IsPlan, ParsedBy, left_seen, twin_counts};
@@ -9,6 +9,7 @@ use crate::planning::Turn;
 use crate::scanning::read_entry;
 use embedding::twin_of;
 use refusals::Refusal;
+use shapes::counts::Counts;
 
 // What a text says of each dart. Three arrays with a place for each dart that can be: the library has no heap, and lends the front of each.
 #[derive(Clone, Copy)]
@@ -24,16 +25,26 @@ impl Counted {
         requires { (darts % 2 ≡ 0) × (darts ≤ 256) }
         ensures { result ≡ twin_counts darts 0 self.now.rights self.now.lefts }
     {
-        for d in 0..darts {
-            let t = twin_of(d);
-            if self.rights[t] != self.lefts[d] {
-                return false;
-            }
-            if self.lefts[t] != self.rights[d] {
-                return false;
-            }
+        (0..darts).all(|d| self.is_turned(d, twin_of(d)))
+    }
+
+    // Whether dart `d` has as many bends one way as dart `t` the other.
+    fn is_turned(&self, d: usize, t: usize) -> bool
+        requires { (d < 256) × (t < 256) }
+        ensures { result ≡ (eqb (get_or self.now.rights t 0) (get_or self.now.lefts d 0) && eqb (get_or self.now.lefts t 0) (get_or self.now.rights d 0)) }
+    {
+        self.rights[t] == self.lefts[d] && self.lefts[t] == self.rights[d]
+    }
+
+    // What the text says of the first `darts` darts.
+    pub fn counts(&self, darts: usize) -> Counts<'_>
+        requires { (darts % 2 ≡ 0) × (darts ≤ 256) }
+        ensures { (result.angles.now ≡ take darts self.now.angles) × (result.rights.now ≡ take darts self.now.rights) }
+    {
+        Counts {
+            angles: &self.angles[..darts],
+            rights: &self.rights[..darts],
         }
-        true
     }
 }
 

@@ -1,10 +1,8 @@
 //! The faces of a plate in the sequence of its text: the outer face first, the others by smallest dart.
-ghost use Rattle.std.specs.Prelude.{◌≡◌, ◌+◌, ◌<◌, ◌≤◌, List, [], ◌∷◌, ◌++◌, length, take};
-ghost use Rattle.embedding.specs.Read.{Stands, place_of};
-ghost use Rattle.embedding.specs.Plates.{Plate as PlateOf};
-ghost use Rattle.shapes.specs.Claims.{Accepted, Standing};
+ghost use Rattle.std.specs.Prelude.{◌≡◌, ◌<◌, ◌≤◌, List, [], ◌∷◌, ◌++◌, length, take};
+ghost use Rattle.embedding.specs.Read.{meant, place_of};
 ghost use Rattle.texts.specs.declared.planning.Turn.{Turn};
-ghost use Rattle.texts.specs.Plan.{FaceRoom, FaceLaid, NumberRoom, NumberFits, NumberLaid, OuterIs, Laying, LayingOn, PlanHeld};
+ghost use Rattle.texts.specs.Plan.{FaceRoom, FaceLaid, NumberFits, NumberLaid, PlanHeld};
 
 use embedding::Plate;
 use std::marker::Model;
@@ -63,11 +61,11 @@ impl Laid {
 }
 
 // Where a face's number stands first: at its smallest dart.
-fn lead_of(face: &[u8; 256], number: u8) -> usize
-    requires { length face.now ≡ 256 }
+fn lead_of(face: &[u8], number: usize) -> usize
     ensures { result ≡ place_of number face.now }
 {
-    face.iter().position(|x| *x == number).unwrap_or(256)
+    let first = face.iter().position(|x| usize::from(*x) == number);
+    first.unwrap_or(face.len())
 }
 
 // The face of dart `start`, laid behind the others.
@@ -92,37 +90,25 @@ fn lay_face(next: &[u8; 256], darts: usize, start: usize, plan: &mut Laid)
 }
 
 // The face of a number, laid behind the others.
-fn lay_number(plate: Plate, number: u8, plan: &mut Laid)
-    requires { NumberRoom plate number plan.old }
-    ensures { (p : PlateOf) → Stands plate p → Accepted p → NumberFits p number plan.old → NumberLaid p number plan.old plan.new }
+fn lay_number(plate: Plate, number: usize, plan: &mut Laid)
+    requires { NumberFits (meant plate) number plan.old }
+    ensures { NumberLaid (meant plate) number plan.old plan.new }
 {
-    let face = plate.face;
-    let next = plate.next;
-    let start = lead_of(&face, number);
-    lay_face(&next, plate.darts, start, plan);
-}
-
-// Face `k` laid, unless it is the outer one.
-fn lay_next(plate: Plate, outer: u8, k: usize, plan: &mut Laid)
-    requires { LayingOn plate outer k plan.old }
-    ensures { (p : PlateOf) → Stands plate p → Accepted p → OuterIs p outer → Laying p k plan.old → Laying p (k + 1) plan.new }
-{
-    if k != usize::from(outer) {
-        lay_number(plate, k as u8, plan);
-    }
+    let start = lead_of(&plate.face, number);
+    lay_face(&plate.next, plate.darts, start, plan);
 }
 
 // All faces laid.
 pub fn plan_of(plate: Plate) -> Laid
-    requires { Standing plate }
-    ensures { (p : PlateOf) → Stands plate p → Accepted p → PlanHeld p result }
+    ensures { PlanHeld (meant plate) result }
 {
-    let face = plate.face;
-    let outer = face[usize::from(plate.outer)];
+    let outer = usize::from(plate.face[usize::from(plate.outer)]);
     let mut plan = Laid::new();
     lay_number(plate, outer, &mut plan);
     for k in 0..plate.faces {
-        lay_next(plate, outer, k, &mut plan);
+        if k != outer {
+            lay_number(plate, k, &mut plan);
+        }
     }
     plan
 }

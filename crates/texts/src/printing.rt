@@ -11,6 +11,7 @@ use crate::entries::Entry;
 use crate::planning::Turn;
 use embedding::twin_of;
 use plates::listing::write_decimal;
+use shapes::counts::Counts;
 
 fn digits_long(n: usize) -> usize
     ensures long { result ≡ length (decimal n) }
@@ -41,11 +42,7 @@ pub fn text_long(rights: &[u8]) -> usize
     requires { (length rights.now % 2 ≡ 0) × (length rights.now ≤ 256) }
     ensures { result ≡ long_up_to (length rights.now) rights.now }
 {
-    let mut sum = 0;
-    for d in 0..rights.len() {
-        sum += entry_long(rights, d);
-    }
-    sum
+    (0..rights.len()).map(|d| entry_long(rights, d)).sum()
 }
 
 // The byte that a word is a run of, and how often: - is one byte.
@@ -84,10 +81,11 @@ fn write_entry(out: &mut [u8], at: usize, entry: Entry) -> usize
 }
 
 // Writes the entries of a plan to the front of `out`, and gives their length.
-pub fn write_entries(out: &mut [u8], plan: &[Turn], angles: &[u8], rights: &[u8]) -> usize
-    requires { PrintRoom plan.now angles.now rights.now (length out.old) }
-    ensures { Written 0 (text_of (count_entries angles.now rights.now (laid plan.now))) out.old out.new result }
+pub fn write_entries(out: &mut [u8], plan: &[Turn], counts: Counts) -> usize
+    requires { PrintRoom plan.now counts.angles.now counts.rights.now (length out.old) }
+    ensures { Written 0 (text_of (count_entries counts.entry.angles.now counts.entry.rights.now (laid plan.now))) out.old out.new result }
 {
+    let Counts { angles, rights } = counts;
     let mut at = 0;
     for turn in plan {
         let d = usize::from(turn.dart);

@@ -1,26 +1,40 @@
 -- `texts::write_text`: the list's refusal, the shape file's own, or what its counts give.
-use mathlib.Core.Path.{sym, subst}
-use native.Mathlib.Omega.{arith}
-use Rattle.plates.specs.declared.Listed.{Listed}
-use Rattle.plates.proofs.Calls.{no_fault}
-use Rattle.plates.specs.Texts.{WriteSays}
-use Rattle.texts.proofs.WriteLaws.{list_refused_write, file_refused_write}
+use Rattle.std.proofs.Common.{◌≡◌, ◌∙◌, ap, sym, rules, Err}
+use Rattle.plates.specs.Read.{shape_file_fault}
+use Rattle.plates.specs.Says.{check_fault}
+use Rattle.texts.proofs.WriteLaws.{list_refused_write, file_refused_write, check_refused, both_refused, counts_many, counts_straight, text_said}
 use Rattle.texts.proofs.write_text.Goals as goal
 
-pub returns-then-read-ne0 : goal.returns-then-read-ne0
-returns-then-read-ne0 c =
-    let s = c.args.list.now in
-    let t = c.args.shape.now in
-    let o = c.args.out.now in
-    let read = c.read_list-read in
-    subst (λ (v : Listed). WriteSays s t o o v) (sym c.refused_text.ensures) (list_refused_write s t o read.result.number read.ensures.number c.if-read-ne0.true)
+pub returns-in_err-list : goal.returns-in_err-list
+returns-in_err-list c =
+    let refused : c.from_residual.result ≡ Err c.in_err-list.field-0.0 = search rules in
+    list_refused_write c.args.list.now c.args.shape.now c.args.out.now refused c.in_err-list.ensures.0
 
-pub returns-then-g-ne0 : goal.returns-then-g-ne0
-returns-then-g-ne0 c =
-    let s = c.args.list.now in
-    let t = c.args.shape.now in
-    let o = c.args.out.now in
-    let read = c.read_list-read in
-    let file = c.read_shape-g in
-    let none = no_fault read.ensures (omega (arith, c.if-read-ne0.false)) in
-    subst (λ (v : Listed). WriteSays s t o o v) (sym c.refused_text-then-g-ne0.ensures) (file_refused_write s t o none file.result.number file.ensures.number c.if-g-ne0.true)
+pub returns-in_err-file : goal.returns-in_err-file
+returns-in_err-file c =
+    let refused : c.from_residual-in_err-file.result ≡ Err c.in_err-file.field-0.0 = search rules in
+    file_refused_write c.args.list.now c.args.shape.now c.args.out.now refused c.in_ok-list.ensures.0 (c.in_err-file.ensures.0 ∙ ap (λ s. shape_file_fault s c.args.shape.now) c.in_ok-list.ensures.1)
+
+pub returns-in_err-check : goal.returns-in_err-check
+returns-in_err-check c =
+    let list = c.in_ok-file.ensures.1.0 ∙ c.in_ok-list.ensures.1 in
+    let refused : c.from_residual-in_err-check.result ≡ Err c.in_err-check.field-0.0 = search rules in
+    check_refused c.args.list.now c.args.shape.now c.args.out.now refused (c.in_err-check.ensures ∙ (λ i. check_fault (list i) (c.in_ok-file.ensures.1.1 i)))
+
+pub returns-then-both_ways : goal.returns-then-both_ways
+returns-then-both_ways c =
+    let list = c.in_ok-file.ensures.1.0 ∙ c.in_ok-list.ensures.1 in
+    both_refused c.in_ok-file.file list c.in_ok-file.ensures.1.1 c.in_ok-check.ensures c.both_ways.ensures c.args.out.now c.if-both_ways.true
+
+pub print_counts-requires-clause-many : goal.print_counts-requires-clause-many
+print_counts-requires-clause-many c = counts_many c.in_ok-file.file
+
+pub print_counts-requires-clause-straight : goal.print_counts-requires-clause-straight
+print_counts-requires-clause-straight c =
+    let list = c.in_ok-file.ensures.1.0 ∙ c.in_ok-list.ensures.1 in
+    counts_straight c.in_ok-file.file list c.in_ok-file.ensures.1.1 c.in_ok-check.ensures c.both_ways.ensures c.if-both_ways.false
+
+pub returns : goal.returns
+returns c =
+    let list = c.in_ok-file.ensures.1.0 ∙ c.in_ok-list.ensures.1 in
+    text_said c.in_ok-file.file list c.in_ok-file.ensures.1.1 c.in_ok-check.ensures c.both_ways.ensures c.if-both_ways.false c.args.out.now _ _ c.print_counts.ensures

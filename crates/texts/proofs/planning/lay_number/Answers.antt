@@ -3,9 +3,7 @@ use Rattle.texts.proofs.LayingLaws.{number_room, number_laid}
 use Rattle.texts.proofs.planning.lay_number.Goals as goal
 
 pub lay_face-requires : goal.lay_face-requires
-lay_face-requires c =
-    let (p, s, a, fits) = c.requires in
-    number_room s a fits c.lead_of-start.ensures
+lay_face-requires c = number_room c.args.plate c.requires c.lead_of-start.ensures
 
 pub returns : goal.returns
-returns c = λ p s a fits. number_laid s a fits c.lead_of-start.ensures _ c.lay_face.ensures
+returns c = number_laid c.args.plate c.requires c.lead_of-start.ensures _ c.lay_face.ensures

@@ -1,17 +1,27 @@
 -- `texts::planning::plan_of` lays the outer face, then the others in turn.
-use Rattle.std.proofs.Common.{arith}
-use Rattle.texts.proofs.LayingLaws.{outer_fits, outer_laid, outer_number, laying_done}
+use Rattle.std.proofs.Common.{arith, subst, sym, ◌+◌}
+use Rattle.embedding.specs.Read.{meant}
+use Rattle.texts.specs.Plan.{Laying}
+use Rattle.texts.proofs.LayingLaws.{outer_fits, outer_laid, face_fits, face_same, face_more, faces_done}
+use Rattle.texts.proofs.planning.plan_of.Goals.{then-k-outer, else-k-outer}
 use Rattle.texts.proofs.planning.plan_of.Goals as goal
 
 pub lay_number-requires : goal.lay_number-requires
-lay_number-requires c =
-    let (p, s, a) = c.requires in
-    (p, s, a, outer_fits s a _ (outer_number s a c.from.ensures) _ c.new-plan.ensures)
+lay_number-requires c = outer_fits c.args.plate c.from-outer.ensures c.from.ensures _ c.new-plan.ensures
 
 pub loop-k-init : goal.loop-k-init
-loop-k-init c = λ p s a.
-    let out = outer_number s a c.from.ensures in
-    (out, outer_laid s a _ out _ _ c.new-plan.ensures (c.lay_number.ensures p s a (outer_fits s a _ out _ c.new-plan.ensures)))
+loop-k-init c = outer_laid c.args.plate c.from-outer.ensures c.from.ensures _ _ c.new-plan.ensures c.lay_number.ensures
+
+pub lay_number-requires-then-k-outer : goal.lay_number-requires-then-k-outer
+lay_number-requires-then-k-outer c = face_fits c.args.plate c.from-outer.ensures c.from.ensures c.loop-k-test.true _ c.loop-k.invariant c.if-k-outer.true
+
+pub loop-k-preserved : goal.loop-k-preserved
+loop-k-preserved c =
+    let laying = Laying (meant c.args.plate) (c.loop-k.k + 1) in
+    elim c.if-k-outer.branch [
+      | then-k-outer w ↦ subst laying (sym w.plan-is) (face_more c.args.plate c.from-outer.ensures c.from.ensures c.loop-k-test.true _ c.loop-k.invariant w.if-k-outer.true _ w.lay_number-then-k-outer.ensures)
+      | else-k-outer w ↦ subst laying (sym w.plan-is) (face_same c.args.plate c.from-outer.ensures c.from.ensures c.loop-k-test.true _ c.loop-k.invariant w.if-k-outer.false)
+    ]
 
 pub returns : goal.returns
-returns c = λ p s a. let (out, laying) = c.loop-k.invariant p s a in laying_done s a _ out _ (omega (arith, s.face_count, c.loop-k-test.false)) laying
+returns c = faces_done c.args.plate c.from-outer.ensures c.from.ensures _ (omega (arith, c.loop-k-test.false)) c.loop-k.invariant
