@@ -1,196 +1,160 @@
--- The fields of a plate with one strip more, written one behind the other, are its list: each begins where the one before it ended, and all of them fit. Assumes nothing.
+-- The list after a step: how long it is, and that its fields written one behind the other are it. Assumes nothing.
 use mathlib.Core.Path.{◌≡◌, refl, sym, ap, subst, ◌∙◌}
-use mathlib.Core.Bool.{Bool, true, false}
+use mathlib.Core.Bool.{true, false}
 use mathlib.Core.List.{List, [], ◌∷◌, ◌++◌, append-nil}
-use mathlib.Core.Logic.{⊎_elim}
-use Prim.Native.Nat.{ℕ, suc, ◌+◌, ◌*◌, ◌/◌, ◌≤◌, ◌<◌}
+use Prim.Native.Nat.{ℕ, ◌+◌, ◌*◌, ◌≤◌, ◌<◌}
 use native.Mathlib.Omega.{arith}
-use lib.Dec.{lit<}
-use lib.ListN.{length, get_or, take, length-append}
-use Rattle.finite.proofs.Tests.{either}
-use Rattle.fields.specs.Says.{bytes_of}
+use lib.ListN.{length, take, length-append}
+use lib.Seq.{length-take-le}
+use denote.Bor.{Bor}
+use Rattle.std.proofs.Common.{Option, Some, None}
+use Rattle.std.specs.Prelude.{is_some, unwrap_or, option_map}
+use Rattle.fields.specs.Says.{ListFieldsOf}
 use Rattle.fields.specs.Writing.{Written}
-use Rattle.fields.specs.declared.Fields.{Fields}
+use Rattle.fields.specs.declared.ListFields.{ListFields}
+use Rattle.fields.proofs.Added.{is_some-content_at, unwrap_or-content_at}
 use Rattle.fields.proofs.Puts.{written_none, written_then}
-use Rattle.fields.proofs.Laid.{absent_none}
-use Rattle.embedding.specs.Plates.{Plate}
-use Rattle.embedding.specs.Read.{Stands, Accepted}
-use Rattle.embedding.specs.Edits.{laid}
-use Rattle.embedding.specs.Arrays.{Front, Appended, row_in}
+use Rattle.embedding.specs.Read.{meant}
+use Rattle.embedding.specs.Arrays.{Front, Appended}
 use Rattle.embedding.specs.declared.Plate.{Plate as Held}
-use Rattle.embedding.proofs.Fronted.{front_none, front_same, front_take}
 use Rattle.embedding.proofs.Faultless.{faultless}
-use Rattle.embedding.proofs.Holding.{held_posts, held_darts, held_degrees, held_order, held_ends}
-use Rattle.plates.specs.declared.Listed.{Listed}
-use Rattle.plates.specs.Answers.{listed}
-use Rattle.plates.specs.Listing.{Gives}
-use Rattle.plates.specs.Plates.{pick, when}
+use Rattle.embedding.proofs.Fronted.{front_none, front_take}
+use Rattle.embedding.proofs.Holding.{held_ends}
+use Rattle.plates.specs.Plates.{pick, strips}
 use Rattle.plates.specs.Files.{Field, has_tag, content_of, walk_all, field}
-use Rattle.plates.specs.Read.{Walked}
 use Rattle.plates.specs.Ordering.{bytes_in}
-use Rattle.plates.specs.Journal.{limits_with, plate_fields, grown_fields}
-use Rattle.plates.proofs.Contents.{ListFields, list_fields}
-use Rattle.plates.proofs.HeldLists.{walked_content, walked_there}
-use Rattle.plates.proofs.Journal.{plate_fields_long, limits_long}
-use Rattle.plates.proofs.ListingRows.{gives_short, gives_whole}
-use Rattle.edits.specs.Writes.{list_long, LimitsRoom, PlateGiven, PlateRoom}
+use Rattle.plates.specs.Journal.{limits_with}
+use Rattle.plates.proofs.Contents.{list_fields}
+use Rattle.plates.proofs.Journal.{plate_fields_long}
+use Rattle.plates.proofs.Limits.{one_each}
+use Rattle.plates.proofs.Lists.{list_walked}
+use Rattle.edits.specs.Writes.{more_bytes, grown_bytes}
+use Rattle.edits.specs.declared.Grown.{Grown}
 
--- the length, told whether there are limits
-pub long_with : (k : ℕ) (b : Bool) → b ≡ true → 19 + 2 * k + 3 + k / 2 ≡ list_long k b
-long_with k b e = rw e (omega arith)
-
-pub long_without : (k : ℕ) (b : Bool) → b ≡ false → 19 + 2 * k ≡ list_long k b
-long_without k b e = rw e (omega arith)
-
--- a list and one element more at the front of an array
-pub with_more : {more : ℕ} {c zeros before all : List ℕ} → length zeros ≡ 256 → Appended 0 c zeros before → Appended (length c) (more ∷ []) before all → Front (c ++ (more ∷ [])) all
-with_more {more} {c} {zeros} size first last = last c (first [] (front_none zeros size) refl) refl
-
-module _ {s : List ℕ} {f : Fields} (w : Walked s f) where
+-- the limits of a list, where it has any
+module _ (s : List ℕ) {f : ListFields} (h : ListFieldsOf (walk_all false s).fields f) where
   abbrev fs : List Field
   fs = (walk_all false s).fields
 
-  -- slot 6 is field 07
-  pub there : get_or f.seen 6 false ≡ has_tag 7 fs
-  there = walked_there w 6 (lit< tt)
+  abbrev now : Bor (List ℕ) → List ℕ
+  now c = c.now
 
-  pub limits_are : (c : List ℕ) → c ≡ bytes_of s f 6 → c ≡ content_of 7 fs
-  limits_are c e = e ∙ walked_content w 6 (lit< tt)
+  there : {c : Bor (List ℕ)} → f.limits ≡ Some c → has_tag 7 fs ≡ true
+  there e = sym (is_some-content_at 7 fs) ∙ ap is_some (sym h.limits ∙ ap (option_map now) e)
 
-  -- no limits, nothing written
-  pub limits_none : (more at : ℕ) (out : List ℕ) → get_or f.seen 6 false ≡ false → Written at (bytes_in (limits_with fs more)) out out at
-  limits_none more at out e =
-      subst (λ (b : Bool). Written at (bytes_in (pick b (record { tag = 7; content = content_of 7 fs ++ (more ∷ []) } ∷ []) [])) out out at) (sym (sym there ∙ e)) (written_none at out)
+  content : {c : Bor (List ℕ)} → f.limits ≡ Some c → content_of 7 fs ≡ c.now
+  content e = sym (unwrap_or-content_at 7 fs) ∙ ap (λ (o : Option (List ℕ)). unwrap_or o []) (sym h.limits ∙ ap (option_map now) e)
 
-  -- the limits and one more behind them
-  pub limits_some : {at more n : ℕ} {c zeros before all out out' : List ℕ} → get_or f.seen 6 false ≡ true → c ≡ bytes_of s f 6 → length zeros ≡ 256
-      → Appended 0 c zeros before → Appended (length c) (more ∷ []) before all → Written at (field 7 (take (length c + 1) all)) out out' n
-      → Written at (bytes_in (limits_with fs more)) out out' n
-  limits_some {at} {more} {n} {c} {zeros} {before} {all} {out} {out'} e q size first last h =
-      subst (λ (b : Bool). Written at (bytes_in (pick b (record { tag = 7; content = content_of 7 fs ++ (more ∷ []) } ∷ []) [])) out out' n) (sym (sym there ∙ e))
-      (subst (λ (x : List ℕ). Written at x out out' n) (ap (field 7) whole ∙ sym (append-nil (field 7 (content_of 7 fs ++ (more ∷ []))))) h)
-    where
-      whole : take (length c + 1) all ≡ content_of 7 fs ++ (more ∷ [])
-      whole =
-          front_take (with_more size first last) (length-append c (more ∷ []))
-          ∙ ap (λ (l : List ℕ). l ++ (more ∷ [])) (limits_are c q)
+  absent : f.limits ≡ None → has_tag 7 fs ≡ false
+  absent e = sym (is_some-content_at 7 fs) ∙ ap is_some (sym h.limits ∙ ap (option_map now) e)
 
--- room for the limits: few enough for the array, and where there are any the field fits
-module _ {s : List ℕ} {f : Fields} {at room : ℕ} (r : LimitsRoom s f at room) (c : List ℕ) (q : c ≡ bytes_of s f 6) where
-  long_is : length c ≡ length (content_of 7 (walk_all false s).fields)
-  long_is = ap length (limits_are r.walked c q)
+  module _ (n : ℕ) where
+    pub more_some : {c : Bor (List ℕ)} → f.limits ≡ Some c → more_bytes s n ≡ field 7 (c.now ++ (n ∷ []))
+    unfolding more_bytes
+    more_some {c} e =
+        ap (λ b. bytes_in (pick b (record { tag = 7; content = content_of 7 fs ++ (n ∷ []) } ∷ []) [])) (there e)
+        ∙ append-nil (field 7 (content_of 7 fs ++ (n ∷ []))) ∙ ap (λ l. field 7 (l ++ (n ∷ []))) (content e)
 
-  pub limits_few : length c + 1 ≤ 128
-  limits_few = omega (arith, long_is, r.few)
+    pub more_none : f.limits ≡ None → more_bytes s n ≡ []
+    unfolding more_bytes
+    more_none e = ap (λ b. bytes_in (pick b (record { tag = 7; content = content_of 7 fs ++ (n ∷ []) } ∷ []) [])) (absent e)
 
-  pub limits-fit : get_or f.seen 6 false ≡ true → at + (4 + length c) ≤ room
-  limits-fit e = omega (arith, long_is, r.enough, ap (λ (b : Bool). when b (4 + length (content_of 7 (walk_all false s).fields))) (sym (there r.walked) ∙ e))
+-- limits with one more behind them at the front of an array
+pub with_more : {more : ℕ} {c zeros before all : List ℕ} → length zeros ≡ 256 → Appended 0 c zeros before → Appended (length c) (more ∷ []) before all → Front (c ++ (more ∷ [])) all
+with_more {c = c} {zeros = zeros} size first last = last c (first [] (front_none zeros size) refl) refl
 
--- a plate that is given
-module _ {s : List ℕ} {f : Fields} {q : Held} (g : PlateGiven s f q) where
-  abbrev gs : List Field
-  gs = (walk_all false s).fields
+-- the list of a plate with one strip more
+module _ (g : Grown) where
+  abbrev s : List ℕ
+  s = g.list.bytes.now
 
-  pub given_posts : q.posts ≤ 64
-  given_posts = held_posts g.standing.1 g.standing.2
+  abbrev q : Held
+  q = g.plate
 
-  pub given_darts : q.darts ≤ 256
-  given_darts = held_darts g.standing.1 g.standing.2
+  ends_long : length (meant q).ends ≡ q.darts
+  ends_long = sym q.stands.dart_count
 
-  pub given_degrees : (v : ℕ) → get_or q.degrees v 0 ≤ 4
-  given_degrees = held_degrees g.standing.1 g.standing.2
+  order_long : length (meant q).order ≡ q.darts
+  order_long = (faultless (meant q) q.accepted.no_fault).all_ordered ∙ sym q.stands.dart_count
 
-  pub given_places : length q.places ≡ 256
-  given_places = g.standing.1.four_places.size
+  pub revision_long : length g.list.fields.revision.now ≡ 2
+  revision_long = ap (λ (l : List ℕ). length l) g.list.contents.revision ∙ (list_fields s (list_walked s g.list.accepted)).revision
 
-  pub given_ends : length q.ends ≡ 256
-  given_ends = g.standing.1.strip_ends.size
+  -- few limits
+  pub limits_few : {c : Bor (List ℕ)} → g.list.fields.limits ≡ Some c → length c.now < 128
+  limits_few {c} e =
+      omega (
+        arith,
+        ap (λ (l : List ℕ). length l) (content s g.list.contents e),
+        one_each s g.list.accepted (there s g.list.contents e),
+        ap strips g.list.table,
+        g.list.plate.stands.dart_count,
+        g.one_more,
+        g.few,
+      )
 
-  laid_out : ListFields gs
-  laid_out = list_fields s g.walked.passed
+  -- the limits and one more as they are lent
+  pub more_lent : {c : Bor (List ℕ)} {all : List ℕ} → g.list.fields.limits ≡ Some c → Front (c.now ++ (g.limit ∷ [])) all → length (take (length c.now + 1) all) ≡ length c.now + 1
+  more_lent {c} {all} e front = length-take-le (length c.now + 1) all (omega (arith, limits_few e, front.size))
 
-  pub revision_is : (c : List ℕ) → c ≡ bytes_of s f 0 → c ≡ content_of 1 gs
-  revision_is c e = e ∙ walked_content g.walked 0 (lit< tt)
+  pub some_long : {c : Bor (List ℕ)} → g.list.fields.limits ≡ Some c → length (more_bytes s g.limit) ≡ 4 + length c.now
+  some_long {c} e = omega (arith, ap (λ (l : List ℕ). length l) (more_some s g.list.contents g.limit e), length-append c.now (g.limit ∷ []))
 
-  pub revision_two : (c : List ℕ) → c ≡ bytes_of s f 0 → length c ≡ 2
-  revision_two c e = ap length (revision_is c e) ∙ laid_out.revision
+  pub none_long : g.list.fields.limits ≡ None → length (more_bytes s g.limit) ≡ 0
+  none_long e = ap (λ (l : List ℕ). length l) (more_none s g.list.contents g.limit e)
 
-  -- the limits, where there are any
-  pub limits_most : suc (length (content_of 7 gs)) ≤ 128
-  limits_most = ⊎_elim (λ h. omega (arith, g.limits-fit h, given_darts)) (λ h. omega (arith, ap (length {A = ℕ}) (absent_none 7 gs h))) (either (has_tag 7 gs))
+  -- the strips and the order as they are lent
+  pub ends_lent : length (take q.darts q.ends) ≡ q.darts
+  ends_lent = ap (λ (l : List ℕ). length l) (front_take (held_ends q.stands q.accepted) ends_long) ∙ ends_long
 
-  pub limits_room : when (has_tag 7 gs) (4 + length (content_of 7 gs)) ≡ when (has_tag 7 gs) (3 + q.darts / 2)
-  limits_room = by (has_tag 7 gs) g.limits-fit
-    where
-      by : (b : Bool) → (b ≡ true → suc (length (content_of 7 gs)) ≡ q.darts / 2) → when b (4 + length (content_of 7 gs)) ≡ when b (3 + q.darts / 2)
-      by true h = omega (arith, h refl)
-      by false h = refl
+  pub order_lent : {order : List ℕ} → Front (meant q).order order → length (take q.darts order) ≡ q.darts
+  order_lent front = ap (λ (l : List ℕ). length l) (front_take front order_long) ∙ order_long
 
-  module _ {p : Plate} (st : Stands q p) (a : Accepted p) where
-    ends_long : length p.ends ≡ q.darts
-    ends_long = sym st.dart_count
+  pub grown_long : length (grown_bytes s (meant q) g.limit) ≡ 19 + 2 * q.darts + length (more_bytes s g.limit)
+  unfolding grown_bytes more_bytes
+  grown_long =
+      omega (
+        arith,
+        plate_fields_long (content_of 1 (walk_all false s).fields) (meant q) (limits_with (walk_all false s).fields g.limit),
+        (list_fields s (list_walked s g.list.accepted)).revision,
+        ends_long,
+        order_long,
+      )
 
-    order_long : length p.order ≡ q.darts
-    order_long = (faultless p a.no_fault).all_ordered ∙ sym st.dart_count
+  -- the limits as they are written
+  pub some_written : {c : Bor (List ℕ)} {all : List ℕ} {at n : ℕ} {out out' : List ℕ} → g.list.fields.limits ≡ Some c → Front (c.now ++ (g.limit ∷ [])) all
+      → Written at (field 7 (take (length c.now + 1) all)) out out' n → Written at (more_bytes s g.limit) out out' n
+  some_written {c} {all} {at} {n} {out} {out'} e front w =
+      subst (λ (l : List ℕ). Written at l out out' n)
+      (ap (field 7) (front_take front (length-append c.now (g.limit ∷ []))) ∙ sym (more_some s g.list.contents g.limit e)) w
 
-    module _ (more : ℕ) where
-      -- the length of the list
-      pub list_is_long : length (bytes_in (grown_fields gs p more)) ≡ list_long q.darts (has_tag 7 gs)
-      list_is_long =
-          omega (arith, plate_fields_long (content_of 1 gs) p (limits_with gs more), laid_out.revision, ends_long, order_long, limits_long gs more, limits_room)
+  pub none_written : (at : ℕ) (out : List ℕ) → g.list.fields.limits ≡ None → Written at (more_bytes s g.limit) out out at
+  none_written at out e = subst (λ (l : List ℕ). Written at l out out at) (sym (more_none s g.list.contents g.limit e)) (written_none at out)
 
-      -- the fields written in a row
-      pub fields_written : {n x n1 n2 n3 n4 n5 n6 : ℕ} {c order out o1 o2 o3 o4 o5 o6 : List ℕ} → c ≡ bytes_of s f 0 → n ≡ q.posts → x ≡ q.outer
-          → Front (laid q.posts (row_in q.places q.degrees)) order
-          → list_long q.darts (has_tag 7 gs) ≤ length out
-          → Written 0 (field 1 c) out o1 n1 → length o1 ≡ length out
-          → Written n1 (field 2 (n ∷ [])) o1 o2 n2 → length o2 ≡ length o1
-          → Written n2 (field 3 (take q.darts q.ends)) o2 o3 n3 → length o3 ≡ length o2
-          → Written n3 (field 4 (take q.darts order)) o3 o4 n4 → length o4 ≡ length o3
-          → Written n4 (field 5 (x ∷ [])) o4 o5 n5 → length o5 ≡ length o4
-          → Written n5 (bytes_in (limits_with gs more)) o5 o6 n6
-          → Written 0 (bytes_in (grown_fields gs p more)) out o6 n6
-      fields_written {n} {x} {n1} {n2} {n3} {n4} {n5} {n6} {c} {order} {out} {o1} {o2} {o3} {o4} {o5} {o6} rev np xp front room w1 l1 w2 l2 w3 l3 w4 l4 w5 l5 w6 =
-          let c-long : length c ≡ 2 = revision_two c rev in
-          let v3 : Written n2 (field 3 p.ends) o2 o3 n3 = subst (λ (l : List ℕ). Written n2 (field 3 l) o2 o3 n3) ends_are w3 in
-          let v4 : Written n3 (field 4 p.order) o3 o4 n4 = subst (λ (l : List ℕ). Written n3 (field 4 l) o3 o4 n4) order_is w4 in
-          let e1 : n1 ≡ 5 = omega (arith, w1.behind) in
-          let e2 : n2 ≡ 9 = omega (arith, w2.behind) in
-          let e3 : n3 ≡ 12 + q.darts = omega (arith, v3.behind, ends_long) in
-          let e4 : n4 ≡ 15 + 2 * q.darts = omega (arith, v4.behind, order_long) in
-          let e5 : n5 ≡ 19 + 2 * q.darts = omega (arith, w5.behind) in
-          subst (λ (l : List ℕ). Written 0 l out o6 n6)
-          (ap (λ (l : List ℕ). bytes_in (plate_fields l p (limits_with gs more))) (revision_is c rev))
-          (written_then (omega arith) w1
-          (written_then (omega arith)
-          (subst (λ (l : ℕ). Written n1 (field 2 (l ∷ [])) o1 o2 n2) (np ∙ st.same_posts) w2)
-          (written_then (omega arith) v3
-          (written_then (omega arith) v4
-          (written_then (omega arith)
-          (subst (λ (l : ℕ). Written n4 (field 5 (l ∷ [])) o4 o5 n5) (xp ∙ st.outer_dart) w5)
-          w6)))))
-        where
-          ends_are : take q.darts q.ends ≡ p.ends
-          ends_are = front_take (held_ends st a) ends_long
+  -- the fields written in a row
+  pub fields_written : {n1 n2 n3 n4 n5 n6 : ℕ} {order out o1 o2 o3 o4 o5 o6 : List ℕ} → Front (meant q).order order
+      → length (grown_bytes s (meant q) g.limit) ≤ length out
+      → Written 0 (field 1 g.list.fields.revision.now) out o1 n1 → length o1 ≡ length out
+      → Written n1 (field 2 (q.posts ∷ [])) o1 o2 n2 → length o2 ≡ length o1
+      → Written n2 (field 3 (take q.darts q.ends)) o2 o3 n3 → length o3 ≡ length o2
+      → Written n3 (field 4 (take q.darts order)) o3 o4 n4 → length o4 ≡ length o3
+      → Written n4 (field 5 (q.outer ∷ [])) o4 o5 n5 → length o5 ≡ length o4
+      → Written n5 (more_bytes s g.limit) o5 o6 n6
+      → Written 0 (grown_bytes s (meant q) g.limit) out o6 n6
+  unfolding grown_bytes more_bytes
+  fields_written {n1} {n2} {n3} {n4} {n5} {n6} {order} {out} {o1} {o2} {o3} {o4} {o5} {o6} front room w1 l1 w2 l2 w3 l3 w4 l4 w5 l5 w6 =
+      let v1 : Written 0 (field 1 (content_of 1 (walk_all false s).fields)) out o1 n1 = subst (λ (l : List ℕ). Written 0 (field 1 l) out o1 n1) g.list.contents.revision w1 in
+      let v2 : Written n1 (field 2 ((meant q).posts ∷ [])) o1 o2 n2 = subst (λ (x : ℕ). Written n1 (field 2 (x ∷ [])) o1 o2 n2) q.stands.same_posts w2 in
+      let v3 : Written n2 (field 3 (meant q).ends) o2 o3 n3 = subst (λ (l : List ℕ). Written n2 (field 3 l) o2 o3 n3) (front_take (held_ends q.stands q.accepted) ends_long) w3 in
+      let v4 : Written n3 (field 4 (meant q).order) o3 o4 n4 = subst (λ (l : List ℕ). Written n3 (field 4 l) o3 o4 n4) (front_take front order_long) w4 in
+      let v5 : Written n4 (field 5 ((meant q).outer ∷ [])) o4 o5 n5 = subst (λ (x : ℕ). Written n4 (field 5 (x ∷ [])) o4 o5 n5) q.stands.outer_dart w5 in
+      let e1 : n1 ≡ 5 = omega (arith, w1.behind, revision_long) in
+      let e2 : n2 ≡ 9 = omega (arith, v2.behind) in
+      let e3 : n3 ≡ 12 + q.darts = omega (arith, v3.behind, ends_long) in
+      let e4 : n4 ≡ 15 + 2 * q.darts = omega (arith, v4.behind, order_long) in
+      let e5 : n5 ≡ 19 + 2 * q.darts = omega (arith, v5.behind) in
+      let most : 19 + 2 * q.darts ≤ length out = omega (arith, grown_long) in
+      written_then (omega arith) v1 (written_then (omega arith) v2 (written_then (omega arith) v3 (written_then (omega arith) v4 (written_then (omega arith) v5 w6))))
 
-          order_is : take q.darts order ≡ p.order
-          order_is = front_take (front_same (held_order st a) front) order_long
-
--- measured: the length by the slot that says if there are limits
-module _ {s : List ℕ} {f : Fields} {q : Held} (g : PlateGiven s f q) {long : ℕ} (measured : long ≡ list_long q.darts (get_or f.seen 6 false)) where
-  long_now : long ≡ list_long q.darts (has_tag 7 (walk_all false s).fields)
-  long_now = measured ∙ ap (list_long q.darts) (there g.walked)
-
-  pub room_enough : (room : ℕ) → long ≤ room → PlateRoom s f q room
-  room_enough room h = record { given = g; enough = omega (arith, long_now) }
-
-  module _ (more : ℕ) (o : List ℕ) {p : Plate} (st : Stands q p) (a : Accepted p) where
-    pub list_short : {v : Listed} → length o < long → v ≡ listed 16 0 → Gives (bytes_in (grown_fields (walk_all false s).fields p more)) o o v
-    list_short {v} h e =
-        subst (λ (w : Listed). Gives (bytes_in (grown_fields (walk_all false s).fields p more)) o o w) (sym e)
-        (gives_short (bytes_in (grown_fields (walk_all false s).fields p more)) o (omega (arith, long_now, list_is_long g st a more)))
-
-    pub list_whole : {o' : List ℕ} {n : ℕ} → long ≤ length o → Written 0 (bytes_in (grown_fields (walk_all false s).fields p more)) o o' n → Gives (bytes_in (grown_fields (walk_all false s).fields p more)) o o' (listed 0 long)
-    list_whole {o'} h w =
-        subst (λ (k : ℕ). Gives (bytes_in (grown_fields (walk_all false s).fields p more)) o o' (listed 0 k)) (list_is_long g st a more ∙ sym long_now)
-        (gives_whole (bytes_in (grown_fields (walk_all false s).fields p more)) o (omega (arith, long_now, list_is_long g st a more)) w.bytes)
+-- what the lengths of its fields are
+pub ruleset lengths = (limits_few, revision_long, ends_lent, order_lent, some_long, none_long, grown_long)

@@ -1,19 +1,23 @@
 -- `edits::edit_list`: the list's refusal, the step's, or what the writer gives of the plate after it.
-use mathlib.Core.Path.{◌≡◌}
-use native.Mathlib.Omega.{arith}
-use Rattle.plates.specs.Files.{plate_of}
-use Rattle.plates.proofs.Calls.{no_fault, held}
-use Rattle.edits.proofs.EditLaws.{list-refused, step_refused, no_step_fault, edited_stands, plate_given, after_given}
+use mathlib.Core.Path.{ap, subst, ◌∙◌}
+use mathlib.Core.List.{List}
+use Prim.Native.Nat.{ℕ}
+use Rattle.refusals.specs.Numbers.{fault_of}
+use Rattle.embedding.proofs.Holding.{held_darts}
+use Rattle.plates.specs.Answers.{listed_of}
+use Rattle.plates.specs.Journal.{new_limit, EditSays}
+use Rattle.edits.proofs.EditLaws.{edited_darts, step_gives}
 use Rattle.edits.proofs.edit_list.Goals as goal
 
-pub returns-then-read-ne0 : goal.returns-then-read-ne0
-returns-then-read-ne0 c = list-refused c.args.list.now c.args.step c.args.out.now c.read_list-read.ensures.number c.if-read-ne0.true c.refused_edit.ensures
-
-pub returns-then-edited-ne0 : goal.returns-then-edited-ne0
-returns-then-edited-ne0 c = let good : c.read_list-read.result.number ≡ 0 = omega (arith, c.if-read-ne0.false) in let h = held c.read_list-read.ensures good in step_refused c.args.list.now c.args.step c.args.out.now (no_fault c.read_list-read.ensures good) (c.apply-edited.ensures.0 (plate_of c.args.list.now) h.plate h.accepted).number c.if-edited-ne0.true c.refused_edit-then-edited-ne0.ensures
-
-pub write_list-requires : goal.write_list-requires
-write_list-requires c = let good : c.read_list-read.result.number ≡ 0 = omega (arith, c.if-read-ne0.false) in let h = held c.read_list-read.ensures good in let e = c.apply-edited.ensures in plate_given c.args.list.now c.args.step (no_fault c.read_list-read.ensures good) h e.1 (edited_stands (plate_of c.args.list.now) c.args.step (e.0 (plate_of c.args.list.now) h.plate h.accepted) (omega (arith, c.if-edited-ne0.false)))
+pub invariant_of-after : goal.invariant_of-after
+invariant_of-after c =
+    record {
+      one_more = edited_darts c.in_ok-before.before.plate c.args.step c.apply-edited.ensures (ap fault_of c.in_ok-edited.was);
+      few = held_darts c.apply-edited.result.plate.stands c.apply-edited.result.plate.accepted;
+    }
 
 pub returns : goal.returns
-returns c = let good : c.read_list-read.result.number ≡ 0 = omega (arith, c.if-read-ne0.false) in let h = held c.read_list-read.ensures good in let e = c.apply-edited.ensures.0 (plate_of c.args.list.now) h.plate h.accepted in let done : c.apply-edited.result.number ≡ 0 = omega (arith, c.if-edited-ne0.false) in after_given c.args.list.now c.args.step c.args.out.now _ _ (no_fault c.read_list-read.ensures good) h (no_step_fault (plate_of c.args.list.now) c.args.step e done) c.content-limits.ensures c.new_limit-more.ensures (λ a. c.write_list.ensures _ (edited_stands (plate_of c.args.list.now) c.args.step e done) a)
+returns c =
+    subst (λ (s : List ℕ). EditSays s c.args.step c.args.out.now c.write.new.out (listed_of c.write.result)) c.in_ok-before.ensures.1
+    (step_gives c.in_ok-before.before c.args.step c.apply-edited.ensures (ap fault_of c.in_ok-edited.was) c.args.out.now c.write.new.out (listed_of c.write.result)
+    (c.new_limit.ensures ∙ ap (λ (l : List ℕ). new_limit l c.args.step) c.limits.ensures) c.write.ensures)
