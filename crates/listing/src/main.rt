@@ -7,15 +7,10 @@ use std::io;
 
 // Prints the listing of a plate list, by way of `text`.
 fn show(rt: &impl Print, list: &[u8], text: &mut [u8]) -> io::Result<()> {
-    let listed = write_listing(list, text);
-    let long = listed.long;
-    if listed.number != 0 {
-        return Ok(());
+    match write_listing(list, text) {
+        Ok(long) if long <= text.len() => rt.write_all(&text[..long]),
+        _ => Ok(()),
     }
-    if text.len() < long {
-        return Ok(());
-    }
-    rt.write_all(&text[..long])
 }
 
 // Of longer input only the first 1,024 bytes are read. No accepted list is longer than 745 bytes, so such
