@@ -2,8 +2,11 @@
 #![tactic(auto)]
 
 ghost use Rattle.std.specs.Prelude.{◌≡◌, ◌%◌, ◌≤◌, length};
+ghost use Rattle.embedding.specs.Plates.{plate};
+ghost use Rattle.embedding.specs.Read.{Reads};
 
-use embedding::read_plate;
+use embedding::{Plate, read_plate};
+use refusals::Refusal;
 use shapes::best::{BestShape, best, best_by};
 use shapes::counts::Counts;
 use shapes::judge::judge;
@@ -30,72 +33,71 @@ fn show_shape(rt: &impl Print, darts: usize, s: BestShape) -> io::Result<()>
     rt.write_all(b"\n")
 }
 
-// Writes a line: the label and the best shape.
-fn show(
-    rt: &impl Print,
-    label: &[u8],
+// A plate as its list gives it.
+#[derive(Clone, Copy)]
+struct PlateList<'a> {
     posts: u8,
-    ends: &[u8],
-    order: &[u8],
+    ends: &'a [u8],
+    order: &'a [u8],
     outer: u8,
-) -> io::Result<()>
-    requires { (length ends.now ≤ 256) × (length ends.now % 2 ≡ 0) × (length order.now ≤ 256) }
-{
+    ghost few_ends: { length ends.now ≤ 256 },
+    ghost even_ends: { length ends.now % 2 ≡ 0 },
+    ghost few_darts: { length order.now ≤ 256 },
+}
+
+impl PlateList<'_> {
+    fn read(&self) -> Result<Plate, Refusal>
+        ensures { Reads (plate self.now.posts self.now.ends.now self.now.order.now self.now.outer) result }
+    {
+        read_plate(self.posts, self.ends, self.order, self.outer)
+    }
+}
+
+const P1: PlateList<'static> = PlateList {
+    posts: 2,
+    ends: b"\x00\x01\x00\x01",
+    order: b"\x00\x02\x01\x03",
+    outer: 1,
+};
+
+const P7: PlateList<'static> = PlateList {
+    posts: 2,
+    ends: b"\x00\x01\x00\x01\x00\x01",
+    order: b"\x00\x02\x04\x05\x03\x01",
+    outer: 1,
+};
+
+// Writes a line: the label and the best shape.
+fn show(rt: &impl Print, label: &[u8], list: PlateList) -> io::Result<()> {
     rt.write_all(label)?;
-    match read_plate(posts, ends, order, outer) {
-        Ok(q) => show_shape(rt, ends.len(), best(q)),
+    match list.read() {
+        Ok(q) => show_shape(rt, list.ends.len(), best(q)),
         Err(_) => println!(rt; " refused"),
     }
 }
 
 // Writes a line: the label and the best shape within limits and by prices.
-fn show_by(
-    rt: &impl Print,
-    label: &[u8],
-    posts: u8,
-    ends: &[u8],
-    order: &[u8],
-    outer: u8,
-    by: StripRates,
-) -> io::Result<()>
-    requires { (length ends.now ≤ 256) × (length ends.now % 2 ≡ 0) × (length order.now ≤ 256) }
-{
+fn show_by(rt: &impl Print, label: &[u8], list: PlateList, by: StripRates) -> io::Result<()> {
     rt.write_all(label)?;
-    let Ok(q) = read_plate(posts, ends, order, outer) else {
+    let Ok(q) = list.read() else {
         return println!(rt; " refused");
     };
     if !prices_ok(by.prices) {
         return println!(rt; " prices refused");
     }
     match best_by(q, by) {
-        Some(shape) => show_shape(rt, ends.len(), shape),
+        Some(shape) => show_shape(rt, list.ends.len(), shape),
         None => println!(rt; " no shape"),
     }
 }
 
 // P1 within limits and by prices.
 fn p1_by(rt: &impl Print, label: &[u8], limits: &[u8], prices: &[u8]) -> io::Result<()> {
-    show_by(
-        rt,
-        label,
-        2,
-        b"\x00\x01\x00\x01",
-        b"\x00\x02\x01\x03",
-        1,
-        StripRates { limits, prices },
-    )
+    show_by(rt, label, P1, StripRates { limits, prices })
 }
 
 fn p7_by(rt: &impl Print, label: &[u8], limits: &[u8], prices: &[u8]) -> io::Result<()> {
-    show_by(
-        rt,
-        label,
-        2,
-        b"\x00\x01\x00\x01\x00\x01",
-        b"\x00\x02\x04\x05\x03\x01",
-        1,
-        StripRates { limits, prices },
-    )
+    show_by(rt, label, P7, StripRates { limits, prices })
 }
 
 fn rated_to_try(rt: &impl Print) -> io::Result<()> {
@@ -119,7 +121,7 @@ fn more_rated_to_try(rt: &impl Print) -> io::Result<()> {
 // The verdict on a shape of P1 with these angles and right bends.
 fn verdict(rt: &impl Print, label: &[u8], angles: &[u8], rights: &[u8]) -> io::Result<()> {
     rt.write_all(label)?;
-    let Ok(q) = read_plate(2, b"\x00\x01\x00\x01", b"\x00\x02\x01\x03", 1) else {
+    let Ok(q) = P1.read() else {
         return Ok(());
     };
     if angles.len() != q.darts || rights.len() != q.darts {
@@ -132,36 +134,60 @@ fn verdict(rt: &impl Print, label: &[u8], angles: &[u8], rights: &[u8]) -> io::R
 }
 
 fn shapes_to_try(rt: &impl Print) -> io::Result<()> {
-    show(rt, b"P1", 2, b"\x00\x01\x00\x01", b"\x00\x02\x01\x03", 1)?;
+    show(rt, b"P1", P1)?;
     show(
         rt,
         b"P2",
-        3,
-        b"\x00\x01\x01\x02\x02\x00",
-        b"\x00\x05\x01\x02\x03\x04",
-        1,
+        PlateList {
+            posts: 3,
+            ends: b"\x00\x01\x01\x02\x02\x00",
+            order: b"\x00\x05\x01\x02\x03\x04",
+            outer: 1,
+        },
     )?;
     show(
         rt,
         b"P3",
-        4,
-        b"\x00\x01\x01\x02\x02\x03\x03\x00",
-        b"\x00\x07\x01\x02\x03\x04\x05\x06",
-        1,
+        PlateList {
+            posts: 4,
+            ends: b"\x00\x01\x01\x02\x02\x03\x03\x00",
+            order: b"\x00\x07\x01\x02\x03\x04\x05\x06",
+            outer: 1,
+        },
     )?;
-    show(rt, b"P4", 2, b"\x00\x01", b"\x00\x01", 0)
+    show(
+        rt,
+        b"P4",
+        PlateList {
+            posts: 2,
+            ends: b"\x00\x01",
+            order: b"\x00\x01",
+            outer: 0,
+        },
+    )
 }
 
 // Strips from a post to itself: the one of request E5, and two of which the second lies inside the first.
 fn strips_to_itself(rt: &impl Print) -> io::Result<()> {
-    show(rt, b"to itself", 1, b"\x00\x00", b"\x00\x01", 1)?;
+    show(
+        rt,
+        b"to itself",
+        PlateList {
+            posts: 1,
+            ends: b"\x00\x00",
+            order: b"\x00\x01",
+            outer: 1,
+        },
+    )?;
     show(
         rt,
         b"to itself twice",
-        1,
-        b"\x00\x00\x00\x00",
-        b"\x00\x02\x03\x01",
-        1,
+        PlateList {
+            posts: 1,
+            ends: b"\x00\x00\x00\x00",
+            order: b"\x00\x02\x03\x01",
+            outer: 1,
+        },
     )
 }
 
@@ -169,27 +195,33 @@ fn more_shapes_to_try(rt: &impl Print) -> io::Result<()> {
     show(
         rt,
         b"P5",
-        5,
-        b"\x00\x01\x00\x02\x00\x03\x00\x04",
-        b"\x00\x02\x04\x06\x01\x03\x05\x07",
-        1,
+        PlateList {
+            posts: 5,
+            ends: b"\x00\x01\x00\x02\x00\x03\x00\x04",
+            order: b"\x00\x02\x04\x06\x01\x03\x05\x07",
+            outer: 1,
+        },
     )?;
-    show(rt, b"P6", 3, b"\x00\x01\x01\x02", b"\x00\x01\x02\x03", 1)?;
     show(
         rt,
-        b"P7",
-        2,
-        b"\x00\x01\x00\x01\x00\x01",
-        b"\x00\x02\x04\x05\x03\x01",
-        1,
+        b"P6",
+        PlateList {
+            posts: 3,
+            ends: b"\x00\x01\x01\x02",
+            order: b"\x00\x01\x02\x03",
+            outer: 1,
+        },
     )?;
+    show(rt, b"P7", P7)?;
     show(
         rt,
         b"P8",
-        2,
-        b"\x00\x01\x00\x01\x00\x01",
-        b"\x00\x02\x04\x01\x03\x05",
-        1,
+        PlateList {
+            posts: 2,
+            ends: b"\x00\x01\x00\x01\x00\x01",
+            order: b"\x00\x02\x04\x01\x03\x05",
+            outer: 1,
+        },
     )
 }
 

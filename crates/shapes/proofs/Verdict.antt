@@ -1,6 +1,6 @@
 -- The verdict from what was summed: the tests of the sums are those of the posts and of the faces.
 use mathlib.Core.Path.{◌≡◌, refl, sym, ap, ◌∙◌}
-use mathlib.Core.Bool.{Bool, true, false}
+use mathlib.Core.Bool.{Bool}
 use mathlib.Core.List.{List}
 use Prim.Native.Nat.{ℕ, zero, suc, ◌+◌, ◌<◌}
 use native.Mathlib.Omega.{arith}
@@ -11,8 +11,8 @@ use Rattle.finite.proofs.Tests.{same_test, eqb_turned, from_each, each_from, ove
 use Rattle.embedding.specs.Plates.{is_in, Plate, darts, twin, faces, face_of}
 use Rattle.embedding.specs.Read.{meant, face_number}
 use Rattle.embedding.specs.declared.Plate.{Plate as Held}
-use Rattle.shapes.specs.Shapes.{angles_ok, angle_sum, posts_ok, plus_side, minus_side, face_ok, faces_ok, shape_of}
-use Rattle.shapes.specs.Judge.{judgement, post_angles, face_plus, face_minus, all_four, turns_ok, all_turn}
+use Rattle.shapes.specs.Shapes.{angle_sum, posts_ok, plus_side, minus_side, face_ok, faces_ok, shape_of}
+use Rattle.shapes.specs.Judge.{post_angles, face_plus, face_minus, all_four, turns_ok, all_turn}
 use Rattle.embedding.proofs.Rotation.{Ordered}
 use Rattle.shapes.proofs.Accepted.{ordered}
 use Rattle.shapes.proofs.HeldPlate.{few_posts, few_faces, ends_are, faces_are, outer_below}
