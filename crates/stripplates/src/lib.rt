@@ -1,19 +1,58 @@
 //! The library for C and Rust: what a struct or an enum answers is a number returned and numbers behind references.
 #![tactic(auto)]
 
+ghost use Rattle.std.specs.Prelude.{◌≡◌};
+ghost use Rattle.fields.specs.Ordering.{ordered_of};
 ghost use Rattle.plates.specs.Says.{ShapeSays, CheckSays};
 ghost use Rattle.plates.specs.Listing.{ListingSays};
-ghost use Rattle.plates.specs.Answers.{shaped, verdict, listed, ordered};
+ghost use Rattle.plates.specs.Answers.{shaped, shaped_of, verdict, listed, listed_of, ordered};
 ghost use Rattle.plates.specs.Texts.{WriteSays, ReadSays};
 ghost use Rattle.plates.specs.Ordering.{OrderSays};
 ghost use Rattle.plates.specs.Journal.{EditSays, Split, Hang, Join};
 ghost use Rattle.plates.specs.Books.{RevisionIs};
 
-use book::{Answer, current_revision};
+use book::current_revision;
 use edits::{hang_strip, join_darts, split_strip};
 use fields::ordering::order_fields;
+use plates::encoding::Written;
 use plates::{check_shape, write_listing, write_shape};
+use refusals::Refusal;
 use texts::{read_text, write_text};
+
+// The answer of a call that writes a text, a list or a file in order, as C is given it.
+fn give_length(answer: Result<usize, Refusal>, long: &mut usize) -> u8
+    ensures as_listed { listed result long.new ≡ listed_of answer }
+    ensures as_ordered { ordered result long.new ≡ ordered_of answer }
+{
+    match answer {
+        Ok(n) => {
+            *long = n;
+            0
+        }
+        Err(refusal) => {
+            *long = 0;
+            refusal.number()
+        }
+    }
+}
+
+// The answer of a call that writes a shape file, as C is given it.
+fn give_written(answer: Result<Written, Refusal>, long: &mut u32, bends: &mut u32) -> u8
+    ensures { shaped result long.new bends.new ≡ shaped_of answer }
+{
+    match answer {
+        Ok(written) => {
+            *long = written.long;
+            *bends = written.bends;
+            0
+        }
+        Err(refusal) => {
+            *long = 0;
+            *bends = 0;
+            refusal.number()
+        }
+    }
+}
 
 // Shaping: the refusal's number, or 0 with the shape at the front of `out`, its length and its bends.
 #[unsafe(no_mangle)]
@@ -25,10 +64,7 @@ pub extern "C" fn plates_write_shape(
 ) -> u8
     ensures { ShapeSays list.now out.old out.new (shaped result long.new bends.new) }
 {
-    let s = write_shape(list, out);
-    *long = s.long;
-    *bends = s.bends;
-    s.number
+    give_written(write_shape(list, out), long, bends)
 }
 
 // Checking: the refusal's number, or 0 with the file's total, the fewest within the limits, and whether the shape is the one written.
@@ -42,11 +78,20 @@ pub extern "C" fn plates_check_shape(
 ) -> u8
     ensures { CheckSays list.now shape.now (verdict result total.new fewest.new ours.new) }
 {
-    let v = check_shape(list, shape);
-    *total = v.total;
-    *fewest = v.fewest;
-    *ours = v.ours;
-    v.number
+    match check_shape(list, shape) {
+        Ok(sound) => {
+            *total = sound.total;
+            *fewest = sound.fewest;
+            *ours = sound.ours;
+            0
+        }
+        Err(refusal) => {
+            *total = 0;
+            *fewest = 0;
+            *ours = false;
+            refusal.number()
+        }
+    }
 }
 
 // Listing: 0 with the text at the front of `out` and its length, or 16 where `out` is too short for it.
@@ -54,9 +99,7 @@ pub extern "C" fn plates_check_shape(
 pub extern "C" fn plates_write_listing(list: &[u8], out: &mut [u8], long: &mut usize) -> u8
     ensures { ListingSays list.now out.old out.new (listed result long.new) }
 {
-    let l = write_listing(list, out);
-    *long = l.long;
-    l.number
+    give_length(write_listing(list, out), long)
 }
 
 // To text: the refusal's number, or 0 with the text at the front of `out` and its length.
@@ -69,9 +112,7 @@ pub extern "C" fn plates_write_text(
 ) -> u8
     ensures { WriteSays list.now shape.now out.old out.new (listed result long.new) }
 {
-    let t = write_text(list, shape, out);
-    *long = t.long;
-    t.number
+    give_length(write_text(list, shape, out), long)
 }
 
 // Back from text: the refusal's number, or 0 with the shape file at the front of `out`, its length and its bends.
@@ -85,10 +126,7 @@ pub extern "C" fn plates_read_text(
 ) -> u8
     ensures { ReadSays list.now text.now out.old out.new (shaped result long.new bends.new) }
 {
-    let s = read_text(list, text, out);
-    *long = s.long;
-    *bends = s.bends;
-    s.number
+    give_written(read_text(list, text, out), long, bends)
 }
 
 // Putting an older file in tag order: the old walk's refusal or 16, or 0 with the file at the front of `out` and its length.
@@ -96,9 +134,7 @@ pub extern "C" fn plates_read_text(
 pub extern "C" fn plates_order_fields(file: &[u8], out: &mut [u8], long: &mut usize) -> u8
     ensures { OrderSays file.now out.old out.new (ordered result long.new) }
 {
-    let o = order_fields(file, out);
-    *long = o.long;
-    o.number
+    give_length(order_fields(file, out), long)
 }
 
 // A step of the editor: a strip ends at a new post, and a new strip runs from there to its old end. The refusal's number, or 0 with the list after the step at the front of `out` and its length.
@@ -111,9 +147,7 @@ pub extern "C" fn plates_split_strip(
 ) -> u8
     ensures { EditSays list.now (Split strip) out.old out.new (listed result long.new) }
 {
-    let l = split_strip(list, strip, out);
-    *long = l.long;
-    l.number
+    give_length(split_strip(list, strip, out), long)
 }
 
 // A new strip to a new post, in the corner where a dart ends.
@@ -126,9 +160,7 @@ pub extern "C" fn plates_hang_strip(
 ) -> u8
     ensures { EditSays list.now (Hang dart) out.old out.new (listed result long.new) }
 {
-    let l = hang_strip(list, dart, out);
-    *long = l.long;
-    l.number
+    give_length(hang_strip(list, dart, out), long)
 }
 
 // A new strip from the corner where a dart ends to the corner where another dart of its face ends.
@@ -142,9 +174,7 @@ pub extern "C" fn plates_join_darts(
 ) -> u8
     ensures { EditSays list.now (Join dart other) out.old out.new (listed result long.new) }
 {
-    let l = join_darts(list, dart, other, out);
-    *long = l.long;
-    l.number
+    give_length(join_darts(list, dart, other, out), long)
 }
 
 // Books: the refusal's number, or 0 with the current revision of the model, 0 where the model is not there.
@@ -152,19 +182,14 @@ pub extern "C" fn plates_join_darts(
 pub extern "C" fn plates_current_revision(book: &[u8], model: u16, revision: &mut u16) -> u8
     ensures { RevisionIs book.now model result revision.new }
 {
-    let answer = current_revision(book, model);
-    match answer {
-        Answer::Refused(number) => {
-            *revision = 0;
-            number
-        }
-        Answer::Absent => {
-            *revision = 0;
+    match current_revision(book, model) {
+        Ok(found) => {
+            *revision = found.unwrap_or(0);
             0
         }
-        Answer::Current(r) => {
-            *revision = r;
-            0
+        Err(refusal) => {
+            *revision = 0;
+            refusal.number()
         }
     }
 }
