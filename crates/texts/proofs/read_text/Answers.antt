@@ -1,9 +1,6 @@
 -- `texts::read_text`: the list's refusal, the text's, the counts', or their file.
-use Rattle.std.proofs.Common.{◌≡◌, ◌∙◌, ap, rules, Err}
-use Rattle.embedding.specs.Read.{meant}
-use Rattle.texts.specs.Plan.{laid, PlanHeld}
-use Rattle.texts.proofs.FaceLeads.{dart_bounds}
-use Rattle.texts.proofs.ReadLaws.{plan_once, list_refused_read, text_refused, counts_refused, file_given, file_read}
+use Rattle.std.proofs.Common.{◌≡◌, rules, Err}
+use Rattle.texts.proofs.ReadLaws.{text_refused, counts_refused, file_given, file_read}
 use Rattle.texts.proofs.read_text.Goals as goal
 
 pub returns-in_err-read : goal.returns-in_err-read

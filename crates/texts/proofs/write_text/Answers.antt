@@ -1,8 +1,8 @@
 -- `texts::write_text`: the list's refusal, the shape file's own, or what its counts give.
-use Rattle.std.proofs.Common.{◌≡◌, ◌∙◌, ap, sym, rules, Err}
+use Rattle.std.proofs.Common.{◌≡◌, ◌∙◌, ap, rules, Err}
 use Rattle.plates.specs.Read.{shape_file_fault}
 use Rattle.plates.specs.Says.{check_fault}
-use Rattle.texts.proofs.WriteLaws.{list_refused_write, file_refused_write, check_refused, both_refused, counts_many, counts_straight, text_said}
+use Rattle.texts.proofs.WriteLaws.{file_refused_write, check_refused, both_refused, counts_straight, text_said}
 use Rattle.texts.proofs.write_text.Goals as goal
 
 pub returns-in_err-file : goal.returns-in_err-file

@@ -1,8 +1,7 @@
 -- `texts::counting::print_counts`: the length first, then the text.
-use Rattle.std.proofs.Common.{◌≡◌, ◌∙◌, sym, subst, arith, length}
+use Rattle.std.proofs.Common.{sym, subst, arith, length}
 use Rattle.embedding.specs.Read.{meant}
 use Rattle.fields.specs.Writing.{Written}
-use Rattle.plates.specs.Plates.{darts}
 use Rattle.plates.specs.Text.{text_of}
 use Rattle.plates.proofs.ListingRows.{gives_short}
 use Rattle.texts.specs.Plan.{laid}
