@@ -8,12 +8,10 @@ use texts::read_text;
 
 // Writes the shape file, by way of `out`.
 fn show(rt: &impl Print, list: &[u8], text: &[u8], out: &mut [u8]) -> io::Result<()> {
-    let written = read_text(list, text, out);
-    let long = written.long as usize;
-    if written.number != 0 {
-        return println!(rt; "refused {}", written.number);
+    match read_text(list, text, out) {
+        Ok(file) => rt.write_all(&out[..file.long as usize]),
+        Err(refusal) => println!(rt; "{refusal}"),
     }
-    rt.write_all(&out[..long])
 }
 
 // Of a longer list only the first 4,096 bytes are read, which have the number of the whole (`Files.front`). No text

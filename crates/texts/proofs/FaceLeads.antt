@@ -20,6 +20,7 @@ use Rattle.embedding.proofs.Faces.{face_start, lead_least}
 use Rattle.embedding.proofs.Degrees.{darts_few}
 use Rattle.embedding.proofs.Numbering.{follows_face}
 use Rattle.embedding.proofs.Answers.{number_lead}
+use Rattle.shapes.specs.Counted.{Counted}
 use Rattle.shapes.proofs.Accepted.{faultless, ordered}
 use Rattle.shapes.proofs.HeldPlate.{faces_are}
 use Rattle.shapes.proofs.Places.{face_below_darts, index_of_lead}
@@ -75,6 +76,10 @@ module _ (q : Held) where
 
   pub dart_bounds : (q.darts % 2 ≡ 0) × (q.darts ≤ 256)
   dart_bounds = (ap (λ (n : ℕ). n % 2) q.stands.dart_count ∙ o.even, omega (arith, q.stands.dart_count, few))
+
+  -- the counts of a shape of the plate
+  pub rights_many : {a r : List ℕ} → Counted a r → length a ≡ q.darts → length r ≡ darts (meant q)
+  rights_many counted long = counted.same_length ∙ long ∙ q.stands.dart_count
 
   agree : (x : ℕ) → x < darts p → next_of q.next x ≡ after p x
   agree x l = q.stands.next-darts.at x (omega (arith, few)) ∙ up_below (darts p) (after p) x l

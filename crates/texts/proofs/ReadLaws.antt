@@ -146,11 +146,11 @@ module _ (p : Plate) (ls t : List ℕ) where
           go false e = refl
 
 -- a plan that is held
-pub plan_once : (h : Held) (q : List Turn) → PlanHeld (meant h) q → IsPlan (laid q)
-plan_once h q held =
+pub plan_once : (h : Held) {turns plan : List Turn} → turns ≡ plan → PlanHeld (meant h) plan → IsPlan (laid turns)
+plan_once h same held =
     let p = meant h in
     let o = ordered p h.accepted in
-    ap (λ (x : List Entry). distinct (darts_of x)) held ∙ ap distinct (plan_darts p) ∙ all-distinct p o (outer_below p h.accepted)
+    ap (λ (x : List Entry). distinct (darts_of x)) (ap laid same ∙ held) ∙ ap distinct (plan_darts p) ∙ all-distinct p o (outer_below p h.accepted)
 
 -- right bends that each fit a byte
 total_most : (xs : List ℕ) → ((i : ℕ) → i < length xs → get_or xs i 0 ≤ 255) → total xs ≤ 255 * length xs
@@ -176,7 +176,7 @@ module _ (s t o : List ℕ) where
     list_refused_read q = refused_read (q ∙ sym (first_some (list_fault s) _ (λ z. some_number r (q ∙ z))))
 
 -- of an accepted list of bytes s, and a plan that is held
-module _ (l : PlateList) {s : List ℕ} (bytes : l.bytes.now ≡ s) (t o : List ℕ) (plan : List Turn) (held : PlanHeld (meant l.plate) plan) where
+module _ (l : PlateList) {s : List ℕ} (bytes : l.bytes.now ≡ s) (t o : List ℕ) {turns plan : List Turn} (same : turns ≡ plan) (held : PlanHeld (meant l.plate) plan) where
   abbrev p₂ : Plate
   p₂ = plate_of s
 
@@ -192,13 +192,13 @@ module _ (l : PlateList) {s : List ℕ} (bytes : l.bytes.now ≡ s) (t o : List 
   past_list : text_fault s t ≡ placed_fault p₂ (limits_of s) t
   past_list = ap (λ (k : ℕ). first_of k (placed_fault p₂ (limits_of s) t)) list_ok
 
-  entries_are : entries_fault (laid plan) t ≡ entries_fault (face_entries p₂ [] []) t
-  entries_are = ap (λ (x : List Entry). entries_fault x t) held ∙ ap (λ (p : Plate). entries_fault (face_entries p [] []) t) table
+  entries_are : entries_fault (laid turns) t ≡ entries_fault (face_entries p₂ [] []) t
+  entries_are = ap (λ (x : List Entry). entries_fault x t) (ap laid same ∙ held) ∙ ap (λ (p : Plate). entries_fault (face_entries p [] []) t) table
 
-  pub text_refused : {v : Result Written Refusal} {r : Refusal} → v ≡ Err r → number_of r ≡ entries_fault (laid plan) t → ReadSays s t o o (shaped_of v)
+  pub text_refused : {v : Result Written Refusal} {r : Refusal} → v ≡ Err r → number_of r ≡ entries_fault (laid turns) t → ReadSays s t o o (shaped_of v)
   text_refused {v} {r} is q = refused_read s t o is (q ∙ entries_are ∙ sym (past_list ∙ entries_refused p₂ (limits_of s) t (number_of r) (q ∙ entries_are) (some_number r) ∙ q ∙ entries_are))
 
-  module _ (got : 0 ≡ entries_fault (laid plan) t) {c : Counted} (tables : TablesOf (entries_in t) c) where
+  module _ (got : 0 ≡ entries_fault (laid turns) t) {c : Counted} (tables : TablesOf (entries_in t) c) where
     abbrev counted : ℕ
     counted = counted_fault (plate_of l.bytes.now) (limits_of l.bytes.now) l.plate.darts c.angles c.rights c.lefts
 

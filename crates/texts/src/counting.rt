@@ -13,7 +13,7 @@ use embedding::Plate;
 use refusals::Refusal;
 use shapes::counts::Counts;
 
-// Whether some strip bends both ways.
+/// Whether some strip bends both ways.
 pub fn both_ways(rights: &[u8]) -> bool
     ensures { result ≡ both_ways rights.now }
 {
@@ -21,7 +21,7 @@ pub fn both_ways(rights: &[u8]) -> bool
     strips.iter().any(|strip| 0 < strip[0] && 0 < strip[1])
 }
 
-// Writes the text of counts, or refuses with 16.
+/// Writes the text of counts, or refuses with 16.
 pub fn print_counts(plate: Plate, counts: Counts, out: &mut [u8]) -> Result<usize, Refusal>
     requires many { length counts.angles.now ≡ plate.darts }
     requires straight { Straight counts.angles.now counts.rights.now }

@@ -1,5 +1,5 @@
 //! A text read entry by entry against a plan, in one pass.
-ghost use Rattle.std.specs.Prelude.{◌≡◌, List, ◌∷◌, [], ◌++◌, ◌&&◌, ◌%◌, ◌≤◌, ◌<◌, eqb, get_or, take};
+ghost use Rattle.std.specs.Prelude.{◌≡◌, List, ◌∷◌, [], ◌++◌, ◌&&◌, ◌%◌, ◌≤◌, ◌<◌, eqb, length, get_or, take};
 ghost use Rattle.plates.specs.Text.{Entry as EntryOf};
 ghost use Rattle.texts.specs.Plan.{laid};
 ghost use Rattle.texts.specs.Parses.{GotIs, FilledBy, IsPlan, ParsedBy, left_seen, twin_counts};
@@ -11,7 +11,7 @@ use embedding::twin_of;
 use refusals::Refusal;
 use shapes::counts::Counts;
 
-// What a text says of each dart. Three arrays with a place for each dart that can be: the library has no heap, and lends the front of each.
+/// What a text says of each dart. Three arrays with a place for each dart that can be: the library has no heap, and lends the front of each.
 #[derive(Clone, Copy)]
 pub struct Counted {
     pub angles: [u8; 256],
@@ -20,7 +20,7 @@ pub struct Counted {
 }
 
 impl Counted {
-    // Whether each of these darts has as many bends one way as its twin the other.
+    /// Whether each of these darts has as many bends one way as its twin the other.
     pub fn twins_agree(&self, darts: usize) -> bool
         requires { (darts % 2 ≡ 0) × (darts ≤ 256) }
         ensures { result ≡ twin_counts darts 0 self.now.rights self.now.lefts }
@@ -36,10 +36,11 @@ impl Counted {
         self.rights[t] == self.lefts[d] && self.lefts[t] == self.rights[d]
     }
 
-    // What the text says of the first `darts` darts.
+    /// What the text says of the first `darts` darts.
     pub fn counts(&self, darts: usize) -> Counts<'_>
         requires { (darts % 2 ≡ 0) × (darts ≤ 256) }
-        ensures { (result.angles.now ≡ take darts self.now.angles) × (result.rights.now ≡ take darts self.now.rights) }
+        ensures given { (result.angles.now ≡ take darts self.now.angles) × (result.rights.now ≡ take darts self.now.rights) }
+        ensures long { length result.angles.now ≡ darts }
     {
         Counts {
             angles: &self.angles[..darts],
@@ -67,7 +68,7 @@ fn take_entry<'a>(
     Some(rest)
 }
 
-// The whole text: 30 where it is not of the form, then 31, then 32.
+/// The whole text: 30 where it is not of the form, then 31, then 32.
 pub fn parse(text: &[u8], plan: &[Turn]) -> Result<Counted, Refusal>
     requires { IsPlan (laid plan.now) }
     ensures { ParsedBy (laid plan.now) text.now result }

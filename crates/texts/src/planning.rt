@@ -7,14 +7,14 @@ ghost use Rattle.texts.specs.Plan.{FaceRoom, FaceLaid, NumberFits, NumberLaid, P
 use embedding::Plate;
 use std::marker::Model;
 
-// A dart in its turn, and whether it ends its line.
+/// A dart in its turn, and whether it ends its line.
 #[derive(Clone, Copy)]
 pub struct Turn {
     pub dart: u8,
     pub last: bool,
 }
 
-// The turns laid so far. An array with its length: the library has no heap.
+/// The turns laid so far. An array with its length: the library has no heap.
 #[derive(Drop)]
 pub struct Laid {
     turns: [Turn; 256],
@@ -52,7 +52,7 @@ impl Laid {
         self.count += 1;
     }
 
-    // The turns, as a slice.
+    /// The turns, as a slice.
     pub fn turns(&self) -> &[Turn]
         ensures { result.now ≡ self.now }
     {
@@ -98,7 +98,7 @@ fn lay_number(plate: Plate, number: usize, plan: &mut Laid)
     lay_face(&plate.next, plate.darts, start, plan);
 }
 
-// All faces laid.
+/// All faces laid.
 pub fn plan_of(plate: Plate) -> Laid
     ensures { PlanHeld (meant plate) result }
 {

@@ -37,7 +37,7 @@ fn entry_long(rights: &[u8], d: usize) -> usize
     digits_long(d) + word + 4
 }
 
-// How long the entries of all darts are.
+/// How long the entries of all darts are.
 pub fn text_long(rights: &[u8]) -> usize
     requires { (length rights.now % 2 ≡ 0) × (length rights.now ≤ 256) }
     ensures { result ≡ long_up_to (length rights.now) rights.now }
@@ -80,7 +80,7 @@ fn write_entry(out: &mut [u8], at: usize, entry: Entry) -> usize
     third + 3
 }
 
-// Writes the entries of a plan to the front of `out`, and gives their length.
+/// Writes the entries of a plan to the front of `out`, and gives their length.
 pub fn write_entries(out: &mut [u8], plan: &[Turn], counts: Counts) -> usize
     requires { PrintRoom plan.now counts.angles.now counts.rights.now (length out.old) }
     ensures { Written 0 (text_of (count_entries counts.entry.angles.now counts.entry.rights.now (laid plan.now))) out.old out.new result }

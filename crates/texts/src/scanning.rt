@@ -99,7 +99,7 @@ fn read_angle(s: &[u8]) -> Option<(u8, bool, &[u8])>
     }
 }
 
-// The entry at the front of a text, if there is one.
+/// The entry at the front of a text, if there is one.
 pub fn read_entry(s: &[u8]) -> Option<(Entry, &[u8])>
     ensures { Gives (λ x. (x.0, x.1.now)) result (entry_read s.now) }
 {

@@ -8,12 +8,10 @@ use texts::write_text;
 
 // Writes the text, by way of `out`.
 fn show(rt: &impl Print, list: &[u8], shape: &[u8], out: &mut [u8]) -> io::Result<()> {
-    let written = write_text(list, shape, out);
-    let long = written.long;
-    if written.number != 0 {
-        return println!(rt; "refused {}", written.number);
+    match write_text(list, shape, out) {
+        Ok(long) => rt.write_all(&out[..long]),
+        Err(refusal) => println!(rt; "{refusal}"),
     }
-    rt.write_all(&out[..long])
 }
 
 // Of a longer file only the first 4,096 bytes are read. Such a file is refused, by the number that the whole

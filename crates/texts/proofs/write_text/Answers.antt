@@ -1,14 +1,9 @@
 -- `texts::write_text`: the list's refusal, the shape file's own, or what its counts give.
-use Rattle.std.proofs.Common.{◌≡◌, ◌∙◌, ap, sym, rules, Err}
+use Rattle.std.proofs.Common.{◌≡◌, ◌∙◌, ap, rules, Err}
 use Rattle.plates.specs.Read.{shape_file_fault}
 use Rattle.plates.specs.Says.{check_fault}
-use Rattle.texts.proofs.WriteLaws.{list_refused_write, file_refused_write, check_refused, both_refused, counts_many, counts_straight, text_said}
+use Rattle.texts.proofs.WriteLaws.{file_refused_write, check_refused, both_refused, counts_straight, text_said}
 use Rattle.texts.proofs.write_text.Goals as goal
-
-pub returns-in_err-list : goal.returns-in_err-list
-returns-in_err-list c =
-    let refused : c.from_residual.result ≡ Err c.in_err-list.field-0.0 = search rules in
-    list_refused_write c.args.list.now c.args.shape.now c.args.out.now refused c.in_err-list.ensures.0
 
 pub returns-in_err-file : goal.returns-in_err-file
 returns-in_err-file c =
@@ -25,9 +20,6 @@ pub returns-then-both_ways : goal.returns-then-both_ways
 returns-then-both_ways c =
     let list = c.in_ok-file.ensures.1.0 ∙ c.in_ok-list.ensures.1 in
     both_refused c.in_ok-file.file list c.in_ok-file.ensures.1.1 c.in_ok-check.ensures c.both_ways.ensures c.args.out.now c.if-both_ways.true
-
-pub print_counts-requires-clause-many : goal.print_counts-requires-clause-many
-print_counts-requires-clause-many c = counts_many c.in_ok-file.file
 
 pub print_counts-requires-clause-straight : goal.print_counts-requires-clause-straight
 print_counts-requires-clause-straight c =

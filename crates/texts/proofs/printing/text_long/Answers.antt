@@ -1,5 +1,5 @@
 -- `texts::printing::text_long` adds up the entries of all darts: at most 256 of at most 600 bytes.
-use Rattle.std.proofs.Common.{rules, arith, refl, ◌∙◌, ◌≤◌, ◌^◌, length}
+use Rattle.std.proofs.Common.{rules, arith, ◌∙◌, ◌≤◌, ◌^◌, length}
 use Rattle.std.specs.List.{range_with_len}
 use Rattle.std.proofs.lemmas.List.FromFn.{length-range_with_len}
 use Rattle.std.proofs.lemmas.Iterator.{YieldsList-from_range, YieldsList-from_map}
