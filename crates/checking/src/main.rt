@@ -7,17 +7,15 @@ use std::io;
 use std::io::Read;
 
 fn show(rt: &impl Print, list: &[u8], shape: &[u8]) -> io::Result<()> {
-    let verdict = check_shape(list, shape);
-    if verdict.number != 0 {
-        return println!(rt; "refused {}", verdict.number);
-    }
-    rt.write_all(b"sound\n")?;
-    println!(rt; "total {}", verdict.total)?;
-    println!(rt; "fewest {}", verdict.fewest)?;
-    if verdict.ours {
-        rt.write_all(b"ours yes\n")
-    } else {
-        rt.write_all(b"ours no\n")
+    match check_shape(list, shape) {
+        Ok(sound) => {
+            let ours = if sound.ours { "yes" } else { "no" };
+            println!(rt; "sound")?;
+            println!(rt; "total {}", sound.total)?;
+            println!(rt; "fewest {}", sound.fewest)?;
+            println!(rt; "ours {ours}")
+        }
+        Err(refusal) => println!(rt; "{refusal}"),
     }
 }
 

@@ -7,7 +7,9 @@
 
 ghost use Rattle.std.specs.Prelude.{◌<◌};
 
-use plates::{Listed, Shaped, check_shape, write_shape};
+use plates::encoding::Written;
+use plates::{check_shape, write_shape};
+use refusals::Refusal;
 use std::io;
 use texts::{read_text, write_text};
 
@@ -31,16 +33,27 @@ fn say_untouched(rt: &impl Print, word: &str, s: &[u8]) -> io::Result<()> {
     println!(rt; " {word} {same} of {all} untouched")
 }
 
+// Writes a refusal's number and what is left of the memory.
+fn say_refused(rt: &impl Print, refusal: Refusal, memory: &[u8]) -> io::Result<()> {
+    print!(rt; ": {}", refusal.number())?;
+    say_untouched(rt, "memory", memory)
+}
+
 // Writes what shaping answers and what it left in the memory, which was filled with 0xee.
-fn say_shaped(rt: &impl Print, shaped: Shaped, memory: &[u8]) -> io::Result<()> {
-    print!(rt; ": {}", shaped.number)?;
-    if shaped.number != 0 {
-        return say_untouched(rt, "memory", memory);
+fn say_shaped(
+    rt: &impl Print,
+    shaped: Result<Written, Refusal>,
+    memory: &[u8],
+) -> io::Result<()> {
+    match shaped {
+        Ok(Written { long, bends }) => {
+            print!(rt; ": 0 length {long} bends {bends} bytes")?;
+            let (shape, behind) = memory.split_at(memory.len().min(long as usize));
+            say_bytes(rt, shape)?;
+            say_untouched(rt, "behind", behind)
+        }
+        Err(refusal) => say_refused(rt, refusal, memory),
     }
-    print!(rt; " length {} bends {} bytes", shaped.long, shaped.bends)?;
-    let n = memory.len().min(shaped.long as usize);
-    say_bytes(rt, &memory[..n])?;
-    say_untouched(rt, "behind", &memory[n..])
 }
 
 fn shape_into(rt: &impl Print, label: &str, list: &[u8], memory: &mut [u8]) -> io::Result<()> {
@@ -55,16 +68,14 @@ fn shape(rt: &impl Print, label: &str, list: &[u8]) -> io::Result<()> {
 }
 
 fn check(rt: &impl Print, label: &str, list: &[u8], shape: &[u8]) -> io::Result<()> {
-    let verdict = check_shape(list, shape);
-    print!(rt; "check {label}: {}", verdict.number)?;
-    if verdict.number == 0 {
-        let ours = if verdict.ours { "yes" } else { "no" };
-        print!(rt;
-            " total {} fewest {} ours {ours}",
-            verdict.total, verdict.fewest
-        )?;
+    print!(rt; "check {label}: ")?;
+    match check_shape(list, shape) {
+        Ok(sound) => {
+            let ours = if sound.ours { "yes" } else { "no" };
+            println!(rt; "0 total {} fewest {} ours {ours}", sound.total, sound.fewest)
+        }
+        Err(refusal) => println!(rt; "{}", refusal.number()),
     }
-    println!(rt;)
 }
 
 fn check_p1(rt: &impl Print, label: &str, shape: &[u8]) -> io::Result<()> {
@@ -885,18 +896,16 @@ fn ring_of_64(rt: &impl Print) -> io::Result<()> {
 }
 
 // Writes what the conversion to text answers and what it left in the memory, and the text.
-fn say_listed(rt: &impl Print, listed: Listed, memory: &[u8]) -> io::Result<()> {
-    print!(rt; ": {}", listed.number)?;
-    if listed.number != 0 {
-        return say_untouched(rt, "memory", memory);
+fn say_listed(rt: &impl Print, listed: Result<usize, Refusal>, memory: &[u8]) -> io::Result<()> {
+    match listed {
+        Ok(long) => {
+            print!(rt; ": 0 length {long}")?;
+            let (text, behind) = memory.split_at(memory.len().min(long));
+            say_untouched(rt, "behind", behind)?;
+            rt.write_all(text)
+        }
+        Err(refusal) => say_refused(rt, refusal, memory),
     }
-    let long = listed.long;
-    print!(rt; " length {long}")?;
-    if memory.len() < long {
-        return Ok(());
-    }
-    say_untouched(rt, "behind", &memory[long..])?;
-    rt.write_all(&memory[..long])
 }
 
 fn text_into(
