@@ -7,15 +7,16 @@ use std::io;
 use std::io::Read;
 
 fn show(rt: &impl Print, list: &[u8], shape: &[u8]) -> io::Result<()> {
-    let sound = match check_shape(list, shape) {
-        Ok(sound) => sound,
-        Err(refusal) => return println!(rt; "{refusal}"),
-    };
-    let ours = if sound.ours { "yes" } else { "no" };
-    println!(rt; "sound")?;
-    println!(rt; "total {}", sound.total)?;
-    println!(rt; "fewest {}", sound.fewest)?;
-    println!(rt; "ours {ours}")
+    match check_shape(list, shape) {
+        Ok(sound) => {
+            let ours = if sound.ours { "yes" } else { "no" };
+            println!(rt; "sound")?;
+            println!(rt; "total {}", sound.total)?;
+            println!(rt; "fewest {}", sound.fewest)?;
+            println!(rt; "ours {ours}")
+        }
+        Err(refusal) => println!(rt; "{refusal}"),
+    }
 }
 
 // Of a longer file only the first 4,096 bytes are read. No accepted list is longer than 745 bytes and no

@@ -14,6 +14,7 @@ pub mod FileRows
 pub mod ListingText
 pub mod ListingRows
 pub mod ListingShort
+pub mod ListingFits
 pub mod Decimals
 pub mod OneAnswer
 pub mod Shaping

@@ -33,26 +33,27 @@ fn say_untouched(rt: &impl Print, word: &str, s: &[u8]) -> io::Result<()> {
     println!(rt; " {word} {same} of {all} untouched")
 }
 
-// Writes a refusal's number and what it left in the memory, which was filled with 0xee.
+// Writes a refusal's number and what is left of the memory.
 fn say_refused(rt: &impl Print, refusal: Refusal, memory: &[u8]) -> io::Result<()> {
     print!(rt; ": {}", refusal.number())?;
     say_untouched(rt, "memory", memory)
 }
 
-// Writes what shaping answers and what it left in the memory.
+// Writes what shaping answers and what it left in the memory, which was filled with 0xee.
 fn say_shaped(
     rt: &impl Print,
     shaped: Result<Written, Refusal>,
     memory: &[u8],
 ) -> io::Result<()> {
-    let written = match shaped {
-        Ok(written) => written,
-        Err(refusal) => return say_refused(rt, refusal, memory),
-    };
-    print!(rt; ": 0 length {} bends {} bytes", written.long, written.bends)?;
-    let n = memory.len().min(written.long as usize);
-    say_bytes(rt, &memory[..n])?;
-    say_untouched(rt, "behind", &memory[n..])
+    match shaped {
+        Ok(Written { long, bends }) => {
+            print!(rt; ": 0 length {long} bends {bends} bytes")?;
+            let (shape, behind) = memory.split_at(memory.len().min(long as usize));
+            say_bytes(rt, shape)?;
+            say_untouched(rt, "behind", behind)
+        }
+        Err(refusal) => say_refused(rt, refusal, memory),
+    }
 }
 
 fn shape_into(rt: &impl Print, label: &str, list: &[u8], memory: &mut [u8]) -> io::Result<()> {
@@ -67,15 +68,14 @@ fn shape(rt: &impl Print, label: &str, list: &[u8]) -> io::Result<()> {
 }
 
 fn check(rt: &impl Print, label: &str, list: &[u8], shape: &[u8]) -> io::Result<()> {
-    let sound = match check_shape(list, shape) {
-        Ok(sound) => sound,
-        Err(refusal) => return println!(rt; "check {label}: {}", refusal.number()),
-    };
-    let ours = if sound.ours { "yes" } else { "no" };
-    println!(rt;
-        "check {label}: 0 total {} fewest {} ours {ours}",
-        sound.total, sound.fewest
-    )
+    print!(rt; "check {label}: ")?;
+    match check_shape(list, shape) {
+        Ok(sound) => {
+            let ours = if sound.ours { "yes" } else { "no" };
+            println!(rt; "0 total {} fewest {} ours {ours}", sound.total, sound.fewest)
+        }
+        Err(refusal) => println!(rt; "{}", refusal.number()),
+    }
 }
 
 fn check_p1(rt: &impl Print, label: &str, shape: &[u8]) -> io::Result<()> {
@@ -896,21 +896,16 @@ fn ring_of_64(rt: &impl Print) -> io::Result<()> {
 }
 
 // Writes what the conversion to text answers and what it left in the memory, and the text.
-fn say_listed(
-    rt: &impl Print,
-    listed: Result<usize, Refusal>,
-    memory: &[u8],
-) -> io::Result<()> {
-    let long = match listed {
-        Ok(long) => long,
-        Err(refusal) => return say_refused(rt, refusal, memory),
-    };
-    print!(rt; ": 0 length {long}")?;
-    if memory.len() < long {
-        return Ok(());
+fn say_listed(rt: &impl Print, listed: Result<usize, Refusal>, memory: &[u8]) -> io::Result<()> {
+    match listed {
+        Ok(long) => {
+            print!(rt; ": 0 length {long}")?;
+            let (text, behind) = memory.split_at(memory.len().min(long));
+            say_untouched(rt, "behind", behind)?;
+            rt.write_all(text)
+        }
+        Err(refusal) => say_refused(rt, refusal, memory),
     }
-    say_untouched(rt, "behind", &memory[long..])?;
-    rt.write_all(&memory[..long])
 }
 
 fn text_into(
