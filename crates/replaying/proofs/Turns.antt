@@ -14,7 +14,7 @@ use Rattle.finite.proofs.Lent.{rest_lent}
 use Rattle.fields.specs.Writing.{over}
 use Rattle.embedding.specs.Read.{place_of}
 use Rattle.embedding.proofs.Fronted.{place_most}
-use Rattle.plates.specs.declared.Listed.{Listed}
+use Rattle.plates.specs.Answers.{Listed}
 use Rattle.plates.specs.Files.{list_fault, plate_of}
 use Rattle.plates.specs.Listing.{Gives}
 use Rattle.plates.specs.Journal.{Step, step_fault, list_after, replayed_list, EditWith, EditSays}

@@ -18,15 +18,10 @@ mod replay;
 
 // Prints the listing of a plate list, by way of `text`. 8,192 bytes hold every listing (`ListingShort`).
 fn show(rt: &impl Print, list: &[u8], text: &mut [u8]) -> io::Result<()> {
-    let listed = write_listing(list, text);
-    let long = listed.long;
-    if listed.number != 0 {
-        return Ok(());
+    match write_listing(list, text) {
+        Ok(long) if long <= text.len() => rt.write_all(&text[..long]),
+        _ => Ok(()),
     }
-    if text.len() < long {
-        return Ok(());
-    }
-    rt.write_all(&text[..long])
 }
 
 fn report(rt: &impl Print, list: &[u8], line: usize, outcome: Outcome) -> io::Result<()> {
@@ -73,9 +68,8 @@ fn run(
 ) -> io::Result<()>
     requires { (long ≤ 1024) × (length journal.now ≤ 65535) }
 {
-    let read = read_list(&list[..long]);
-    if read.number != 0 {
-        return println!(rt; "refused {}", read.number);
+    if let Err(refusal) = read_list(&list[..long]) {
+        return println!(rt; "{refusal}");
     }
     let start = Replay {
         list,

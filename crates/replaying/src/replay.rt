@@ -40,20 +40,19 @@ fn take_step(state: Replay, step: Step) -> Replay
     let long = state.long;
     let line = state.line + 1;
     let mut after = list_room();
-    let edited = edit_list(&list[..long], step, &mut after);
-    if edited.number != 0 {
-        return Replay {
+    match edit_list(&list[..long], step, &mut after) {
+        Ok(more) => Replay {
+            list: after,
+            long: more,
+            line,
+            outcome: Outcome::Through,
+        },
+        Err(refusal) => Replay {
             list,
             long,
             line,
-            outcome: Outcome::Refused(edited.number),
-        };
-    }
-    Replay {
-        list: after,
-        long: edited.long,
-        line,
-        outcome: Outcome::Through,
+            outcome: Outcome::Refused(refusal.number()),
+        },
     }
 }
 
