@@ -22,6 +22,3 @@ loop-k-preserved c =
       | then-k-outer w ↦ subst laying (sym w.plan-is) (face_more c.args.plate c.from-outer.ensures c.from.ensures c.loop-k-test.true _ c.loop-k.invariant w.if-k-outer.true _ w.lay_number-then-k-outer.ensures)
       | else-k-outer w ↦ subst laying (sym w.plan-is) (face_same c.args.plate c.from-outer.ensures c.from.ensures c.loop-k-test.true _ c.loop-k.invariant w.if-k-outer.false)
     ]
-
-pub returns : goal.returns
-returns c = faces_done c.args.plate c.from-outer.ensures c.from.ensures _ (omega (arith, c.loop-k-test.false)) c.loop-k.invariant
