@@ -1,8 +1,8 @@
 -- `texts::planning::plan_of` lays the outer face, then the others in turn.
-use Rattle.std.proofs.Common.{arith, subst, sym, ◌+◌}
+use Rattle.std.proofs.Common.{subst, sym, ◌+◌}
 use Rattle.embedding.specs.Read.{meant}
 use Rattle.texts.specs.Plan.{Laying}
-use Rattle.texts.proofs.LayingLaws.{outer_fits, outer_laid, face_fits, face_same, face_more, faces_done}
+use Rattle.texts.proofs.LayingLaws.{outer_fits, outer_laid, face_fits, face_same, face_more}
 use Rattle.texts.proofs.planning.plan_of.Goals.{then-k-outer, else-k-outer}
 use Rattle.texts.proofs.planning.plan_of.Goals as goal
 
