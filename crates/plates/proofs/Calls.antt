@@ -1,12 +1,11 @@
 -- What the public calls build from their steps: the best shape within a list's limits, as counts, gives what the writers ask for. Assumes nothing.
 use mathlib.Core.Path.{◌≡◌, sym, ap, subst, subst₂, ◌∙◌}
 use mathlib.Core.List.{List, []}
-use Prim.Native.Nat.{ℕ, ◌<◌}
-use native.Mathlib.Omega.{arith}
-use lib.ListN.{length, take}
+use Prim.Native.Nat.{ℕ}
+use lib.ListN.{take}
 use Rattle.std.specs.Prelude.{Option, Some}
-use Rattle.shapes.specs.Rates.{rates, BestBy}
-use Rattle.shapes.specs.BestOf.{ShapeHeld, Answers}
+use Rattle.shapes.specs.Rates.{rates}
+use Rattle.shapes.specs.BestOf.{Answers}
 use Rattle.shapes.specs.declared.best.BestShape.{BestShape}
 use Rattle.shapes.proofs.Results.{found_if}
 use Rattle.shapes.proofs.Unpriced.{within_by}
@@ -15,7 +14,6 @@ use Rattle.plates.specs.Shapes.{total, rights_of, shape_of}
 use Rattle.plates.specs.Claims.{BestOf, BestCounts}
 use Rattle.plates.specs.Files.{plate_of, limits_of}
 use Rattle.plates.specs.Says.{check_fault}
-use Rattle.plates.specs.Encodes.{FileGiven}
 use Rattle.plates.specs.declared.reading.PlateList.{PlateList}
 use Rattle.plates.proofs.HeldLists.{list_darts}
 use Rattle.plates.proofs.Sound.{sound_within}
@@ -42,12 +40,6 @@ module _ (l : PlateList) (b : BestShape) (h : Answers (plate_of l.bytes.now) (ra
 
   pub best_total : b.total ≡ total r
   best_total = h.bends_total ∙ ap total (sym rights_are)
-
-  pub best_given : FileGiven l.plate.darts a r
-  best_given = record {
-    angles_many = ap length angles_are ∙ h.angles_long ∙ sym (list_darts l);
-    few = omega (arith, best_total, h.total_fits);
-  }
 
 -- a sound file is itself a shape within the limits, so there is a best one
 pub sound_best : (s t : List ℕ) (o : Option BestShape) → check_fault s t ≡ 0 → Answers (plate_of s) (rates (limits_of s) []) o → (b : BestShape) × (o ≡ Some b)

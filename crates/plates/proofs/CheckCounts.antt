@@ -1,12 +1,11 @@
 -- The check's number of a shape file that was read, from what the steps give that judge and count it, and its verdict. Assumes nothing.
-use mathlib.Core.Path.{◌≡◌, refl, sym, ap, ap₂, subst, ◌∙◌}
+use mathlib.Core.Path.{◌≡◌, refl, sym, ap, subst, ◌∙◌}
 use mathlib.Core.Bool.{Bool, true, false, ◌&&◌}
 use mathlib.Core.List.{List}
 use Prim.Native.Nat.{ℕ}
 use lib.ListN.{length}
 use Rattle.embedding.specs.Read.{meant}
 use Rattle.shapes.specs.Judge.{judgement}
-use Rattle.plates.specs.Plates.{darts}
 use Rattle.plates.specs.Shapes.{total, same, pair_sums, all_within}
 use Rattle.plates.specs.Files.{plate_of, limits_of}
 use Rattle.plates.specs.Claims.{BestCounts}

@@ -2,15 +2,14 @@
 use mathlib.Core.Path.{◌≡◌, refl, sym, ap, subst, ◌∙◌}
 use mathlib.Core.Bool.{Bool, true, false, ◌&&◌, not}
 use mathlib.Core.List.{List}
-use Prim.Native.Nat.{ℕ, zero, suc, ◌≤◌}
-use native.Mathlib.Omega.{arith}
+use Prim.Native.Nat.{ℕ, zero, suc}
 use lib.Dec.{eqb}
 use lib.ListN.{length}
 use borrow.Author.Tests.{eqb-true, eq-eqb, ne_eqb, not-false}
 use Rattle.finite.proofs.Tests.{and_left, and_right, first_none, first_some, first_assoc, when_none}
 use Rattle.plates.specs.Plates.{first_of, when, darts, faces}
-use Rattle.plates.specs.Shapes.{total, same, angles_ok, posts_ok, faces_ok, pair_sums, all_within, shape_of}
-use Rattle.plates.specs.Files.{Field, has_tag, content_of, walk_all, list_fault, plate_of, limits_of}
+use Rattle.plates.specs.Shapes.{total, angles_ok, posts_ok, faces_ok, pair_sums, all_within, shape_of}
+use Rattle.plates.specs.Files.{content_of, walk_all, list_fault, plate_of, limits_of}
 use Rattle.plates.specs.Says.{word, angles_in, rights_in, check_fault, CheckWith, CheckSays}
 use Rattle.plates.specs.Answers.{verdict}
 use Rattle.plates.specs.Read.{shape_file_fault}
@@ -62,9 +61,6 @@ module _ (s t : List ℕ) where
 
   pub refused_check : (e : ℕ) → check_fault s t ≡ e → (e ≡ 0 → ⊥) → CheckSays s t (verdict e 0 0 false)
   refused_check e q n = subst (λ (k : ℕ). CheckWith k s t (verdict e 0 0 false)) (sym q) (refused_with e n)
-
-  pub list_refused_check : (e : ℕ) → e ≡ list_fault s → (e ≡ 0 → ⊥) → CheckSays s t (verdict e 0 0 false)
-  list_refused_check e q n = refused_check e (places ∙ first_some (list_fault s) _ (λ z. n (q ∙ z)) ∙ sym q) n
 
   module _ (none : list_fault s ≡ 0) where
     pub file_refused_check : (e : ℕ) → e ≡ shape_file_fault s t → (e ≡ 0 → ⊥) → CheckSays s t (verdict e 0 0 false)

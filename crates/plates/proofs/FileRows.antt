@@ -9,7 +9,7 @@ use Rattle.fields.specs.Writing.{Written}
 use Rattle.fields.proofs.Puts.{put_front, written_then}
 use Rattle.shapes.specs.declared.counts.Counts.{Counts}
 use Rattle.plates.specs.Shapes.{total}
-use Rattle.plates.specs.Files.{Field, content_of, walk_all, two, field, file_bytes}
+use Rattle.plates.specs.Files.{Field, walk_all, two, field, file_bytes}
 use Rattle.plates.specs.Says.{file_long}
 use Rattle.plates.specs.Encodes.{FileGiven, FileWritten}
 use Rattle.plates.specs.declared.reading.PlateList.{PlateList}

@@ -1,26 +1,23 @@
 -- What a list and a shape file that were read hold: the contents of their fields by tag, the list's plate, an angle and right bends for each of its darts. Assumes nothing.
-use mathlib.Core.Path.{◌≡◌, refl, sym, ap, ap₂, subst, ◌∙◌}
+use mathlib.Core.Path.{◌≡◌, refl, sym, ap, ap₂, ◌∙◌}
 use mathlib.Core.Bool.{Bool, true, false, ◌||◌, not}
 use mathlib.Core.List.{List, []}
 use Prim.Native.Nat.{ℕ, ◌+◌, ◌*◌, ◌/◌, ◌%◌, ◌≤◌}
 use native.Mathlib.Omega.{arith}
 use denote.Bor.{Bor}
 use lib.Dec.{eqb}
-use lib.ListN.{length, get_or}
+use lib.ListN.{length}
 use Rattle.std.specs.Prelude.{Option, Some, None, is_some, unwrap_or, option_map}
 use Rattle.fields.specs.Says.{ListFieldsOf}
 use Rattle.fields.specs.declared.ListFields.{ListFields}
 use Rattle.fields.proofs.Added.{is_some-content_at, unwrap_or-content_at}
-use Rattle.embedding.specs.Read.{Stands}
 use Rattle.embedding.proofs.Holding.{held_darts}
-use Rattle.shapes.specs.Claims.{Accepted}
-use Rattle.shapes.specs.Counted.{Counted}
-use Rattle.plates.specs.Plates.{Plate, plate, darts, strips}
+use Rattle.plates.specs.Plates.{darts, strips}
 use Rattle.plates.specs.Files.{Field, has_tag, content_of, walk_all, plate_in, limits_fit, plate_of}
 use Rattle.plates.specs.Says.{file_long}
 use Rattle.plates.specs.declared.reading.PlateList.{PlateList}
 use Rattle.plates.proofs.Contents as Contents
-use Rattle.plates.proofs.Lists.{list_walked, list_accepted}
+use Rattle.plates.proofs.Lists.{list_walked}
 
 unwrapped : (o : Option (Bor (List ℕ))) (c : Bor (List ℕ)) → (unwrap_or o c).now ≡ unwrap_or (option_map (λ b. b.now) o) c.now
 unwrapped (Some b) c = refl
@@ -28,9 +25,6 @@ unwrapped None c = refl
 
 -- the contents of a list's fields
 module _ {fs : List Field} {f : ListFields} (h : ListFieldsOf fs f) where
-  pub contents_plate : plate (get_or f.posts.now 0 0) f.ends.now f.order.now (get_or f.outer.now 0 0) ≡ plate_in fs
-  contents_plate = λ i. plate (get_or (h.posts i) 0 0) (h.ends i) (h.order i) (get_or (h.outer i) 0 0)
-
   -- the limits, nothing where there are none
   pub contents_limits : (c : Bor (List ℕ)) → c.now ≡ [] → (unwrap_or f.limits c).now ≡ content_of 7 fs
   contents_limits c e = unwrapped f.limits c ∙ ap₂ (λ (o : Option (List ℕ)) (d : List ℕ). unwrap_or o d) h.limits e ∙ unwrap_or-content_at 7 fs

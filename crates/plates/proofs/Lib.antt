@@ -17,7 +17,6 @@ pub mod ListingShort
 pub mod Decimals
 pub mod OneAnswer
 pub mod Shaping
-pub mod CheckLaws
 pub mod CheckSound
 pub mod CheckCounts
 pub mod ListingSaid

@@ -8,12 +8,12 @@ use native.Mathlib.Omega.{arith}
 use lib.ListN.{length, get_or, set, length-append}
 use borrow.Author.Tests.{lt-ltb, le-ltb}
 use Rattle.fields.specs.Writing.{put_at, Written}
-use Rattle.fields.proofs.Puts.{put_front, written_none, written_then}
+use Rattle.fields.proofs.Puts.{put_front, written_then}
 use Rattle.plates.specs.Answers.{Listed}
 use Rattle.plates.specs.Plates.{pick_t}
 use Rattle.plates.specs.Shapes.{total}
 use Rattle.plates.specs.Says.{over}
-use Rattle.plates.specs.Listing.{decimal, numbered, line, revision_word, bends_word, dart_word, right_word, angle_word, dart_line, dart_lines, listing_text, TextWritten, LinesRoom, Gives}
+use Rattle.plates.specs.Listing.{decimal, numbered, line, revision_word, bends_word, dart_word, right_word, angle_word, dart_line, dart_lines, listing_text, TextWritten, Gives}
 use Rattle.plates.proofs.ListingText.{byte_written}
 
 -- lengths
@@ -53,12 +53,9 @@ pub record LinesDone (a r out₀ : List ℕ) (at : ℕ) (out : List ℕ) (next d
   pub below : d ≤ length r
   pub same_long : length out ≡ length out₀
 
-pub lines_none : (a r out : List ℕ) (at : ℕ) → LinesDone a r out at out at 0
-lines_none a r out at = record { written = written_none at out; below = omega arith; same_long = refl }
-
-module _ {a r out₀ out : List ℕ} {at next d : ℕ} (room : LinesRoom a r at (length out₀)) (done : LinesDone a r out₀ at out next d) where
+module _ {a r out₀ out : List ℕ} {at next d : ℕ} (enough : at + length (dart_lines (length r) a r) ≤ length out₀) (done : LinesDone a r out₀ at out next d) where
   at_within : at ≤ length out₀
-  at_within = omega (arith, room.enough)
+  at_within = omega (arith, enough)
 
   pub line_room : d < length r → next + length (dart_line d (get_or r d 0) (get_or a d 0)) ≤ length out
   line_room l =
@@ -66,7 +63,7 @@ module _ {a r out₀ out : List ℕ} {at next d : ℕ} (room : LinesRoom a r at 
       let e : suc d + m ≡ length r = omega arith in
       omega (
         arith,
-        room.enough,
+        enough,
         done.written.behind,
         done.same_long,
         lines_long d a r,
@@ -81,11 +78,6 @@ module _ {a r out₀ out : List ℕ} {at next d : ℕ} (room : LinesRoom a r at 
         below = omega arith;
         same_long = k ∙ done.same_long;
       }
-
-  pub lines_all : length r ≤ d → Written at (dart_lines (length r) a r) out₀ out next
-  lines_all l =
-      let e : d ≡ length r = omega (arith, done.below) in
-      subst (λ (n : ℕ). Written at (dart_lines n a r) out₀ out next) e done.written
 
 -- a text at the front
 pub text_written : {t out out' : List ℕ} {n : ℕ} → Written 0 t out out' n → TextWritten t out out' n

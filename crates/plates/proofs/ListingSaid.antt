@@ -3,10 +3,9 @@ use mathlib.Core.Path.{◌≡◌, refl, sym, ap, subst, ◌∙◌}
 use mathlib.Core.Bool.{true, false}
 use mathlib.Core.List.{List}
 use Prim.Native.Nat.{ℕ, zero, suc, ◌≤◌, ◌<◌}
-use native.Mathlib.Omega.{arith}
 use lib.Dec.{ltb}
 use lib.ListN.{length, get_or, take, drop}
-use lib.Seq.{take_at, length-take-le}
+use lib.Seq.{take_at}
 use borrow.Author.Tests.{lt-ltb}
 use Rattle.finite.proofs.Tests.{each_over}
 use Rattle.plates.specs.Answers.{Listed}
@@ -26,14 +25,8 @@ module _ (t : List ℕ) {buf held : List ℕ} {n : ℕ} (w : TextWritten t buf h
   text_cut : take n held ≡ t
   text_cut = ap (take n) w.bytes ∙ take_at t (drop (length t) buf) n (sym w.long)
 
-  pub text_inside : length t ≤ length buf → length held ≡ length buf → n ≤ length held
-  text_inside l k = omega (arith, w.long)
-
   pub cut_gives : (o o' : List ℕ) (q : Listed) → Gives (take n held) o o' q → Gives t o o' q
   cut_gives o o' q g = subst (λ (x : List ℕ). Gives x o o' q) text_cut g
-
-pub cut_long : (n : ℕ) (held : List ℕ) → n ≤ length held → n ≡ length (take n held)
-cut_long n held h = sym (length-take-le n held h)
 
 module _ {s a r : List ℕ} (e : list_fault s ≡ 0) (g : BestCounts s a r) (v : ℕ) (revision : v ≡ word (content_of 1 (walk_all false s).fields)) where
   pub listing_room : all_bytes s ≡ true → length (listing_text v a r) ≤ 6939

@@ -6,7 +6,6 @@ use Prim.Native.Nat.{ℕ, zero, suc}
 use native.Mathlib.Omega.{arith}
 use lib.Dec.{ltb}
 use lib.ListN.{length}
-use Rattle.finite.proofs.Tests.{first_some}
 use Rattle.plates.specs.Answers.{Shaped, shaped}
 use Rattle.plates.specs.Plates.{pick_t, first_of, when}
 use Rattle.plates.specs.Shapes.{total, shape_of}
@@ -23,9 +22,6 @@ refused_with (suc e) s o n = (refl, refl, refl, refl)
 -- any refusal, from its number
 refused_says : (none : Bool) (e : ℕ) (s o : List ℕ) → NoneKeeps none s → shape_fault none s o ≡ e → (e ≡ 0 → ⊥) → ShapeSays s o o (shaped e 0 0)
 refused_says none e s o k q n = (none, k, subst (λ (k : ℕ). ShapeWith k s o o (shaped e 0 0)) (sym q) (refused_with e s o n))
-
-pub list_refused_says : (e : ℕ) (s o : List ℕ) → e ≡ list_fault s → (e ≡ 0 → ⊥) → ShapeSays s o o (shaped e 0 0)
-list_refused_says e s o q n = refused_says false e s o (λ z. absurd (n (q ∙ z))) (first_some (list_fault s) _ (λ z. n (q ∙ z)) ∙ sym q) n
 
 pub none_says : (s o : List ℕ) → list_fault s ≡ 0 → NoneWithin s → ShapeSays s o o (shaped 24 0 0)
 none_says s o e none = refused_says true 24 s o (λ z. none) (ap (λ (k : ℕ). first_of k 24) e) (λ z. omega (arith, z))

@@ -83,11 +83,6 @@ pub record TextWritten (t out out' : List ℕ) (n : ℕ) : Type 0 where
   pub bytes : out' ≡ over t out
   pub long : n ≡ length t
 
--- room for the darts' lines from a place on
-pub record LinesRoom (a r : List ℕ) (at room : ℕ) : Type 0 where
-  pub same_long : length a ≡ length r
-  pub enough : at + length (dart_lines (length r) a r) ≤ room
-
 -- a text given: it stands at the front of the lent memory, or the memory is too short for it and stays as it is
 abbrev pub Gives : List ℕ → List ℕ → List ℕ → Listed → Type 0
 Gives t o o' r =

@@ -34,6 +34,7 @@ impl ShapeFile<'_> {
         ensures { fault_of result ≡ check_fault self.now.list.bytes.now self.now.bytes.now }
     {
         judge(self.list.plate, self.counts)?;
+        // `as`: usize has no From of u32.
         if number(self.total) != self.counts.total() as usize {
             return Err(Refusal::TotalDiffers);
         }

@@ -28,7 +28,13 @@ impl PlateList<'_> {
         ensures { Answers (plate_of self.now.bytes.now) (rates (limits_of self.now.bytes.now) []) result }
     {
         let limits = self.limits();
-        best_by(self.plate, StripRates { limits, prices: b"" })
+        best_by(
+            self.plate,
+            StripRates {
+                limits,
+                prices: b"",
+            },
+        )
     }
 }
 

@@ -1,10 +1,12 @@
 //! The listing of a plate list: "refused N", or the revision, the bends and a line for each dart.
+//
+// `out` and `at` stay beside each other, for the reason that `fields::writing` gives.
 ghost use Rattle.std.specs.Prelude.{◌≡◌, true, ◌+◌, ◌≤◌, length};
 ghost use Rattle.refusals.specs.Numbers.{number_of};
 ghost use Rattle.fields.specs.Writing.{Written, all_bytes};
 ghost use Rattle.plates.specs.Answers.{listed_of};
 ghost use Rattle.plates.specs.Claims.{BestCounts};
-ghost use Rattle.plates.specs.Listing.{decimal, numbered, line, refused_text, dart_line, dart_lines, listing_text, LinesRoom, TextWritten, Gives, ListingSays};
+ghost use Rattle.plates.specs.Listing.{decimal, numbered, line, refused_text, dart_line, dart_lines, listing_text, TextWritten, Gives, ListingSays};
 
 use crate::reading::PlateList;
 use fields::writing::copy_at;
@@ -65,19 +67,14 @@ fn write_dart(out: &mut [u8], at: usize, dart: usize, right: usize, angle: usize
 }
 
 // Writes the lines of all darts.
-fn write_darts(out: &mut [u8], at: usize, angles: &[u8], rights: &[u8]) -> usize
-    requires { LinesRoom angles.now rights.now at (length out.old) }
-    ensures { Written at (dart_lines (length rights.now) angles.now rights.now) out.old out.new result }
+fn write_darts(out: &mut [u8], at: usize, counts: Counts) -> usize
+    requires { at + length (dart_lines (length counts.rights.now) counts.angles.now counts.rights.now) ≤ length out.old }
+    ensures { Written at (dart_lines (length counts.entry.rights.now) counts.entry.angles.now counts.entry.rights.now) out.old out.new result }
 {
     let mut next = at;
-    for (d, right) in rights.iter().enumerate() {
-        next = write_dart(
-            out,
-            next,
-            d,
-            usize::from(*right),
-            usize::from(angles[d]),
-        );
+    for (d, right) in counts.rights.iter().enumerate() {
+        let angle = counts.angles[d];
+        next = write_dart(out, next, d, usize::from(*right), usize::from(angle));
     }
     next
 }
@@ -87,10 +84,10 @@ fn write_counts(out: &mut [u8], revision: usize, counts: Counts) -> usize
     requires { length (listing_text revision counts.angles.now counts.rights.now) ≤ length out.old }
     ensures { TextWritten (listing_text revision counts.entry.angles.now counts.entry.rights.now) out.old out.new result }
 {
-    let Counts { angles, rights } = counts;
     let second = write_line(out, 0, b"revision ", revision);
+    // `as`: usize has no From of u32.
     let third = write_line(out, second, b"bends ", counts.total() as usize);
-    write_darts(out, third, angles, rights)
+    write_darts(out, third, counts)
 }
 
 // Gives a text into lent memory, or 16.
@@ -108,6 +105,7 @@ fn give_text(text: &[u8], out: &mut [u8]) -> Result<usize, Refusal>
 pub(crate) fn list_refused(refusal: Refusal, out: &mut [u8]) -> Result<usize, Refusal>
     ensures { Gives (refused_text (number_of refusal)) out.old out.new (listed_of result) }
 {
+    // A fixed buffer: the library allocates nothing.
     let mut text = [0u8; 12];
     let number = usize::from(refusal.number());
     let long = write_line(&mut text, 0, b"refused ", number);
@@ -121,6 +119,7 @@ impl PlateList<'_> {
         requires best { BestCounts self.now.bytes.now counts.angles.now counts.rights.now }
         ensures { ListingSays self.now.bytes.now out.old out.new (listed_of result) }
     {
+        // A fixed buffer: the library allocates nothing.
         let mut text = [0u8; 6939];
         let long = write_counts(&mut text, self.revision(), counts);
         give_text(&text[..long], out)

@@ -1,7 +1,6 @@
 -- `check`: judged, then 22, then 25.
 use mathlib.Core.Path.{◌≡◌, refl}
 use Rattle.std.proofs.Common.{rules, Err}
-use Rattle.refusals.specs.Numbers.{number_of}
 use Rattle.embedding.proofs.Numbers.{number_some}
 use Rattle.plates.proofs.CheckCounts.{counts_many, file_judged, file_total, file_limits, file_sound}
 use Rattle.plates.proofs.reading.ShapeFile.check.Goals as goal
