@@ -8,7 +8,7 @@ use native.Mathlib.Numerals.{add-one}
 use Rattle.std.proofs.Math.Nat.{pow-succ'}
 use native.Mathlib.Omega.{arith}
 use lib.ListN.{length, get_or, set, take, drop, replicate, length-append, length-replicate, length-set, take-append-drop}
-use lib.Seq.{take-suc, take_all, drop-drop}
+use lib.Seq.{take-suc, drop-drop}
 use borrow.Rule.Slice.PartMut.{put_mid}
 use Rattle.std.specs.Prelude.{Option, Some, None, IfNone, IfSome, unwrap_or}
 use Rattle.std.specs.List.{sum_by, range_with_len}
@@ -17,8 +17,7 @@ use mathlib.Core.List.{map, map-id}
 use Rattle.finite.proofs.Members.{in_here, in_more}
 use Rattle.finite.proofs.Sums.{sum_below, sum_over, sum_last}
 use Rattle.fields.specs.Writing.{Written}
-use Rattle.fields.proofs.Puts.{written_none, written_then}
-use Rattle.embedding.proofs.Rotation.{twin_below}
+use Rattle.fields.proofs.Puts.{written_then}
 use Rattle.shapes.specs.Counted.{Counted}
 use Rattle.plates.specs.Plates.{is_in, twin}
 use Rattle.plates.specs.Shapes.{some_false, even_word}
@@ -172,9 +171,6 @@ pub record Printing (a r : List ℕ) (ts : List Turn) (out₀ out : List ℕ) (a
   pub written : Written 0 (text_of (count_entries a r (laid (take i ts)))) out₀ out at
   pub same_long : length out ≡ length out₀
 
-pub printing_none : (a r : List ℕ) (ts : List Turn) (out : List ℕ) → Printing a r ts out out 0 0
-printing_none a r ts out = record { written = written_none 0 out; same_long = refl }
-
 module _ {a r : List ℕ} {ts : List Turn} {out₀ out : List ℕ} {at i : ℕ} (counted : Counted a r) (room : PrintRoom ts a r (length out₀)) (done : Printing a r ts out₀ out at i) (l : i < length ts) where
   abbrev turn : Turn
   turn = get_or ts i none_turn
@@ -184,9 +180,6 @@ module _ {a r : List ℕ} {ts : List Turn} {out₀ out : List ℕ} {at i : ℕ} 
 
   even : length r % 2 ≡ 0
   even = omega (arith, counted.same_length, counted.even_length)
-
-  pub twin_below_r : twin turn.dart < length r
-  twin_below_r = twin_below (length r) turn.dart even d_below
 
   pub d_angle : turn.dart < length a
   d_angle = omega (arith, d_below, counted.same_length)
@@ -208,13 +201,7 @@ module _ {a r : List ℕ} {ts : List Turn} {out₀ out : List ℕ} {at i : ℕ} 
     same_long = k ∙ done.same_long;
   }
 
-pub printing_all : {a r : List ℕ} {ts : List Turn} {out₀ out : List ℕ} {at i : ℕ} → Printing a r ts out₀ out at i → length ts ≤ i → Written 0 (text_of (count_entries a r (laid ts))) out₀ out at
-printing_all {a} {r} {ts} {out₀} {out} {at} {i} done l = subst (λ (x : List Turn). Written 0 (text_of (count_entries a r (laid x))) out₀ out at) (take_all i ts l) done.written
-
 -- lengths
-pub long_more : (d : ℕ) (r : List ℕ) → long_up_to (d + 1) r ≡ long_up_to d r + entry_long r d
-long_more d r = ap (λ (n : ℕ). long_up_to n r) (add-one d)
-
 pub long_sum : (n : ℕ) (r : List ℕ) → long_up_to n r ≡ sum_below n (entry_long r)
 long_sum zero r = refl
 long_sum (suc n) r = omega (arith, long_sum n r, sum_last n (entry_long r))

@@ -6,8 +6,8 @@ use Prim.Native.Nat.{ℕ, ◌%◌, ◌≤◌, ◌<◌}
 use native.Mathlib.Omega.{arith}
 use lib.Dec.{eqb}
 use lib.ListN.{get_or}
-use borrow.Author.Tests.{eqb-true, eq-eqb, ne_eqb}
-use Rattle.finite.proofs.Tests.{and_left, and_right, and_both, same_test, not_true_false, from_each, each_from}
+use borrow.Author.Tests.{eqb-true, eq-eqb}
+use Rattle.finite.proofs.Tests.{and_left, and_right, and_both, same_test, from_each, each_from}
 use Rattle.embedding.proofs.Rotation.{twin_below}
 use Rattle.shapes.proofs.Words.{rights_turned, turned_twice, word_eq, word_refl}
 use Rattle.shapes.proofs.OneWord as W
@@ -77,18 +77,3 @@ module _ (n : ℕ) (even : n % 2 ≡ 0) (few : n ≤ 256) (es : List Entry) (unm
       sym (one_dart d (omega arith)) ∙ from_each (λ m d. twin_counts m d r l) by-counts (λ d. refl) (λ m d. refl) n 0 h d lo hi))
       (λ h. each_from (λ m d. twin_counts m d r l) by-counts (λ d. refl) (λ m d. refl) n 0 (λ d lo hi.
       one_dart d (omega arith) ∙ from_each (λ m d. twins_ok_from m d ws) by_words (λ d. refl) (λ m d. refl) n 0 h d lo hi))
-
--- the code's two comparisons
-module _ (r l : List ℕ) (d : ℕ) {t : ℕ} (t-is : t ≡ twin d) where
-  pub first_differs : (get_or r t 0 ≡ get_or l d 0 → ⊥) → (eqb (get_or r (twin d) 0) (get_or l d 0) && eqb (get_or l (twin d) 0) (get_or r d 0)) ≡ false
-  first_differs n = ap (λ (b : Bool). b && eqb (get_or l (twin d) 0) (get_or r d 0)) (ne_eqb (get_or r (twin d) 0) (get_or l d 0) (λ z. n (ap (λ (k : ℕ). get_or r k 0) t-is ∙ z)))
-
-  pub second_differs : (get_or l t 0 ≡ get_or r d 0 → ⊥) → (eqb (get_or r (twin d) 0) (get_or l d 0) && eqb (get_or l (twin d) 0) (get_or r d 0)) ≡ false
-  second_differs n =
-      not_true_false (eqb (get_or r (twin d) 0) (get_or l d 0) && eqb (get_or l (twin d) 0) (get_or r d 0))
-      (λ h. n (ap (λ (k : ℕ). get_or l k 0) t-is ∙ eqb-true (get_or l (twin d) 0) (get_or r d 0) (and_right (eqb (get_or r (twin d) 0) (get_or l d 0)) _ h)))
-
-  pub both_same : get_or r t 0 ≡ get_or l d 0 → get_or l t 0 ≡ get_or r d 0 → (eqb (get_or r (twin d) 0) (get_or l d 0) && eqb (get_or l (twin d) 0) (get_or r d 0)) ≡ true
-  both_same a b =
-      and_both _ _ (eq-eqb (get_or r (twin d) 0) (get_or l d 0) (ap (λ (k : ℕ). get_or r k 0) (sym t-is) ∙ a))
-      (eq-eqb (get_or l (twin d) 0) (get_or r d 0) (ap (λ (k : ℕ). get_or l k 0) (sym t-is) ∙ b))

@@ -1,8 +1,8 @@
 -- `texts::planning::plan_of` lays the outer face, then the others in turn.
-use Rattle.std.proofs.Common.{arith, subst, sym, ◌+◌}
+use Rattle.std.proofs.Common.{subst, sym, ◌+◌}
 use Rattle.embedding.specs.Read.{meant}
 use Rattle.texts.specs.Plan.{Laying}
-use Rattle.texts.proofs.LayingLaws.{outer_fits, outer_laid, face_fits, face_same, face_more, faces_done}
+use Rattle.texts.proofs.LayingLaws.{outer_fits, outer_laid, face_fits, face_same, face_more}
 use Rattle.texts.proofs.planning.plan_of.Goals.{then-k-outer, else-k-outer}
 use Rattle.texts.proofs.planning.plan_of.Goals as goal
 
@@ -22,6 +22,3 @@ loop-k-preserved c =
       | then-k-outer w ↦ subst laying (sym w.plan-is) (face_more c.args.plate c.from-outer.ensures c.from.ensures c.loop-k-test.true _ c.loop-k.invariant w.if-k-outer.true _ w.lay_number-then-k-outer.ensures)
       | else-k-outer w ↦ subst laying (sym w.plan-is) (face_same c.args.plate c.from-outer.ensures c.from.ensures c.loop-k-test.true _ c.loop-k.invariant w.if-k-outer.false)
     ]
-
-pub returns : goal.returns
-returns c = faces_done c.args.plate c.from-outer.ensures c.from.ensures _ (omega (arith, c.loop-k-test.false)) c.loop-k.invariant
