@@ -1,12 +1,24 @@
 -- A replay of the lines of a journal over a plate list: how it stands after each line.
-use Rattle.std.specs.Prelude.{◌≡◌, Bool, true, false, List, [], ◌∷◌, ℕ, ◌+◌, ◌≤◌, ◌<◌, eqb, length, take, Option, Some, None}
+use Rattle.std.specs.Prelude.{◌≡◌, Bool, true, false, List, [], ◌∷◌, ℕ, ◌+◌, eqb, Option, Some, None, Result, Ok, Err}
 use Rattle.finite.specs.Base.{pick}
-use Rattle.plates.specs.Files.{list_fault, plate_of}
+use Rattle.refusals.specs.Numbers.{number_of}
+use Rattle.plates.specs.Files.{plate_of}
 use Rattle.plates.specs.Journal.{Step, step_fault, list_after, replayed_list}
-use Rattle.replaying.specs.declared.replay.Outcome.{Outcome}
-use Rattle.replaying.specs.declared.replay.Outcome.TheVariants.{Through, Refused, Stopped}
-use Rattle.replaying.specs.declared.replay.Replay.{Replay}
+use Rattle.replaying.specs.declared.replay.Stop.{Stop}
+use Rattle.replaying.specs.declared.replay.Stop.TheVariants as S
 use Rattle.replaying.specs.Lines.{step_in, lines_of, steps_in}
+
+-- what became of a line: its step was taken, or refused with a number, or it is no step
+pub data Outcome : Type 0 where
+  Through : Outcome
+  Refused : ℕ → Outcome
+  Stopped : Outcome
+
+-- the outcome that an answer stands for
+abbrev pub outcome_of : Result (Unit {0}) Stop → Outcome
+outcome_of (Ok x) = Through
+outcome_of (Err (S.Refused r)) = Refused (number_of r)
+outcome_of (Err S.NoStep) = Stopped
 
 -- the list, the number of lines gone over, and what became of the last of them
 pub record Stand : Type 0 where
@@ -14,8 +26,12 @@ pub record Stand : Type 0 where
   pub line : ℕ
   pub outcome : Outcome
 
-abbrev pub stand_of : Replay → Stand
-stand_of r = record { list = take r.long r.list; line = r.line; outcome = r.outcome }
+abbrev pub stand : List ℕ → ℕ → Result (Unit {0}) Stop → Stand
+stand s n r = record { list = s; line = n; outcome = outcome_of r }
+
+-- a list with so many lines gone over, before the next
+abbrev pub going : List ℕ → ℕ → Stand
+going s n = record { list = s; line = n; outcome = Through }
 
 -- a step, told whether it has no fault, and its fault
 abbrev pub on_fault : Bool → ℕ → Stand → Step → Stand
@@ -38,28 +54,7 @@ abbrev pub over_lines : Stand → List (List ℕ) → Stand
 over_lines z [] = z
 over_lines z (l ∷ ls) = pick (is_through (on_line z (step_in l)).outcome) (over_lines (on_line z (step_in l)) ls) (on_line z (step_in l))
 
--- an accepted list at the front of an array of 1,024
-pub record Ready (r : Replay) : Type 0 where
-  pub size : length r.list ≡ 1024
-  pub fits : r.long ≤ 1024
-  pub accepted : list_fault (take r.long r.list) ≡ 0
-
--- so few lines gone over that one more can be counted
-pub record Countable (r : Replay) : Type 0 where
-  pub ready : Ready r
-  pub few : r.line < 65536
-
-pub record Goes (z : Stand) (r : Replay) : Type 0 where
-  pub ready : Ready r
-  pub stand : stand_of r ≡ z
-
--- a replay of a journal of at most 65,535 bytes from its first line on
-pub record Startable (r : Replay) (journal : List ℕ) : Type 0 where
-  pub ready : Ready r
-  pub first : r.line ≡ 0
-  pub short : length journal ≤ 65535
-
--- what a replay leaves: its list is that of the steps up to the first line that is none
-pub record Replayed (start : Stand) (journal : List ℕ) (r : Replay) : Type 0 where
-  pub goes : Goes (over_lines start (lines_of journal)) r
-  pub left_list : take r.long r.list ≡ replayed_list start.list (steps_in (lines_of journal))
+-- how a replay of the list s ends: its list is that of the steps up to the first line that is none
+pub record Replayed (s journal : List ℕ) (z : Stand) : Type 0 where
+  pub goes : z ≡ over_lines (going s 0) (lines_of journal)
+  pub left_list : z.list ≡ replayed_list s (steps_in (lines_of journal))

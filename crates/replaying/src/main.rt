@@ -2,12 +2,10 @@
 //! journal, the name of the file to write.
 #![tactic(auto)]
 
-ghost use Rattle.std.specs.Prelude.{◌≤◌, length};
-ghost use Rattle.replaying.specs.Replays.{Ready};
+ghost use Rattle.std.specs.Prelude.{◌≡◌, ◌≤◌, length};
 
-use crate::replay::{Outcome, Replay, replay_lines};
+use crate::replay::{Replay, Stop};
 use console::{complain, open_named, open_to_write, read_named};
-use plates::reading::read_list;
 use plates::write_listing;
 use std::io;
 use std::io::{Read, Write};
@@ -19,19 +17,20 @@ mod replay;
 // Prints the listing of a plate list, by way of `text`. 8,192 bytes hold every listing (`ListingShort`).
 fn show(rt: &impl Print, list: &[u8], text: &mut [u8]) -> io::Result<()> {
     match write_listing(list, text) {
-        Ok(long) if long <= text.len() => rt.write_all(&text[..long]),
-        _ => Ok(()),
+        Ok(long) => rt.write_all(&text[..long]),
+        Err(_) => Ok(()),
     }
 }
 
-fn report(rt: &impl Print, list: &[u8], line: usize, outcome: Outcome) -> io::Result<()> {
+fn report(rt: &impl Print, end: &Replay, outcome: Result<(), Stop>) -> io::Result<()> {
+    let line = end.line();
     match outcome {
-        Outcome::Through => {
+        Ok(()) => {
             let mut text = [0u8; 8192];
-            show(rt, list, &mut text)
+            show(rt, end.list(), &mut text)
         }
-        Outcome::Refused(number) => println!(rt; "refused {number} at line {line}"),
-        Outcome::Stopped => println!(rt; "line {line}: no step"),
+        Err(Stop::Refused(refusal)) => println!(rt; "{refusal} at line {line}"),
+        Err(Stop::NoStep) => println!(rt; "line {line}: no step"),
     }
 }
 
@@ -47,14 +46,13 @@ fn is_saved<R: Print + Env + Files>(rt: &R, list: &[u8]) -> io::Result<bool> {
     Ok(is_written)
 }
 
-fn finish(rt: &(impl Print + Env + Files), end: Replay) -> io::Result<()>
-    requires { Ready end }
+fn finish(rt: &(impl Print + Env + Files), start: Replay, journal: &[u8]) -> io::Result<()>
+    requires { (start.line ≡ 0) × (length journal.now ≤ 65535) }
 {
-    let list = end.list;
-    let long = end.long;
-    let outcome = end.outcome;
-    if is_saved(rt, &list[..long])? {
-        return report(rt, &list[..long], end.line, outcome);
+    let mut replay = start;
+    let outcome = replay.take_lines(journal);
+    if is_saved(rt, replay.list())? {
+        return report(rt, &replay, outcome);
     }
     Ok(())
 }
@@ -68,16 +66,10 @@ fn run(
 ) -> io::Result<()>
     requires { (long ≤ 1024) × (length journal.now ≤ 65535) }
 {
-    if let Err(refusal) = read_list(&list[..long]) {
-        return println!(rt; "{refusal}");
+    match Replay::start(list, long) {
+        Ok(start) => finish(rt, start, journal),
+        Err(refusal) => println!(rt; "{refusal}"),
     }
-    let start = Replay {
-        list,
-        long,
-        line: 0,
-        outcome: Outcome::Through,
-    };
-    finish(rt, replay_lines(start, journal))
 }
 
 // Of a longer list only the first 1,024 bytes are read, which have the number of the whole (`Files.front`).

@@ -1,106 +1,95 @@
 //! The journal's lines over a plate list, one at a time.
-ghost use Rattle.std.specs.Prelude.{◌≡◌, length};
+ghost use Rattle.std.specs.Prelude.{◌≡◌, ◌≤◌, ◌<◌, length, take, IfOk};
+ghost use Rattle.plates.specs.Files.{list_fault};
 ghost use Rattle.replaying.specs.Lines.{step_in};
-ghost use Rattle.replaying.specs.Replays.{stand_of, on_step, on_line, is_through, Countable, Goes, Startable, Replayed};
+ghost use Rattle.replaying.specs.Replays.{stand, going, on_line, Replayed};
+ghost use Rattle.replaying.specs.declared.replay.Stop.TheVariants.{Refused};
 
 use crate::lines::step_in;
 use edits::edit_list;
-use embedding::journal::{Step, place_of};
+use embedding::journal::place_of;
+use plates::reading::read_list;
+use refusals::Refusal;
 
-// What became of a line: its step was taken, or refused with a number, or it is no step.
-#[derive(Clone, Copy)]
-pub enum Outcome {
-    Through,
-    Refused(u8),
-    Stopped,
+/// Why a replay ends before its journal does: a step is refused, or a line is no step.
+#[derive(Clone, Copy, Debug, PartialEq, Eq)]
+pub enum Stop {
+    Refused(Refusal),
+    NoStep,
 }
 
-// The list after the last step that was taken, the number of lines gone over, and what became of the last of them.
+impl From<Refusal> for Stop {
+    ghost from_gives = { λ refusal stop. stop ≡ Refused refusal };
+
+    fn from(refusal: Refusal) -> Stop {
+        Stop::Refused(refusal)
+    }
+}
+
+/// An accepted list, that after the last step that was taken, and the number of lines gone over.
 #[derive(Clone, Copy)]
 pub struct Replay {
-    pub list: [u8; 1024],
-    pub long: usize,
-    pub line: usize,
-    pub outcome: Outcome,
+    list: [u8; 1024],
+    long: usize,
+    line: usize,
+    ghost fits: { long ≤ 1024 },
+    ghost accepted: { list_fault (take long list) ≡ 0 },
 }
 
-// Room for a list.
-fn list_room() -> [u8; 1024]
-    ensures { length result ≡ 1024 }
-{
-    [0; 1024]
-}
-
-// No list after a step has more than 662 bytes (`AfterStep.longest`), so 16 never comes.
-fn take_step(state: Replay, step: Step) -> Replay
-    requires { Countable state }
-    ensures { Goes (on_step (stand_of state) step) result }
-{
-    let list = state.list;
-    let long = state.long;
-    let line = state.line + 1;
-    let mut after = list_room();
-    match edit_list(&list[..long], step, &mut after) {
-        Ok(more) => Replay {
-            list: after,
-            long: more,
-            line,
-            outcome: Outcome::Through,
-        },
-        Err(refusal) => Replay {
+impl Replay {
+    /// Before the first line. A list that is refused has no replay.
+    pub fn start(list: [u8; 1024], long: usize) -> Result<Replay, Refusal>
+        requires { long ≤ 1024 }
+        ensures { IfOk result (λ replay. (take replay.long replay.list ≡ take long list) × (replay.line ≡ 0)) }
+    {
+        read_list(&list[..long])?;
+        Ok(Replay {
             list,
             long,
-            line,
-            outcome: Outcome::Refused(refusal.number()),
-        },
+            line: 0,
+        })
     }
-}
 
-fn take_line(state: Replay, line: &[u8]) -> Replay
-    requires { Countable state }
-    ensures { Goes (on_line (stand_of state) (step_in line.now)) result }
-{
-    let read = step_in(line);
-    match read {
-        Some(step) => take_step(state, step),
-        None => {
-            let list = state.list;
-            Replay {
-                list,
-                long: state.long,
-                line: state.line + 1,
-                outcome: Outcome::Stopped,
-            }
+    pub fn list(&self) -> &[u8]
+        ensures { result.now ≡ take self.now.long self.now.list }
+    {
+        &self.list[..self.long]
+    }
+
+    pub fn line(&self) -> usize
+        ensures { result ≡ self.now.line }
+    {
+        self.line
+    }
+
+    // No list after a step has more than 662 bytes (`AfterStep.longest`), so 16 never comes.
+    fn take_line(&mut self, line: &[u8]) -> Result<(), Stop>
+        requires { self.old.line < 65536 }
+        ensures { stand (take self.new.long self.new.list) self.new.line result ≡ on_line (going (take self.old.long self.old.list) self.old.line) (step_in line.now) }
+    {
+        self.line += 1;
+        let step = step_in(line).ok_or(Stop::NoStep)?;
+        let mut after = [0; 1024];
+        let long = edit_list(&self.list[..self.long], step, &mut after)?;
+        *self = Replay {
+            list: after,
+            long,
+            line: self.line,
+        };
+        Ok(())
+    }
+
+    /// Takes line after line, up to the first that is refused or no step.
+    pub fn take_lines(&mut self, journal: &[u8]) -> Result<(), Stop>
+        requires { (self.old.line ≡ 0) × (length journal.now ≤ 65535) }
+        ensures { Replayed (take self.old.long self.old.list) journal.now (stand (take self.new.long self.new.list) self.new.line result) }
+    {
+        let mut rest = journal;
+        while !rest.is_empty() {
+            let n = place_of(b'\n', rest);
+            self.take_line(&rest[..n])?;
+            rest = &rest[rest.len().min(n + 1)..];
         }
+        Ok(())
     }
-}
-
-fn is_through(outcome: Outcome) -> bool
-    ensures { result ≡ is_through outcome }
-{
-    match outcome {
-        Outcome::Through => true,
-        Outcome::Refused(_) => false,
-        Outcome::Stopped => false,
-    }
-}
-
-pub fn replay_lines(start: Replay, journal: &[u8]) -> Replay
-    requires { Startable start journal.now }
-    ensures { Replayed (stand_of start) journal.now result }
-{
-    let mut state = start;
-    let mut at = 0;
-    while at < journal.len() {
-        let rest = &journal[at..];
-        let n = place_of(b'\n', rest);
-        let next = take_line(state, &rest[..n]);
-        let outcome = next.outcome;
-        state = next;
-        if !is_through(outcome) {
-            return state;
-        }
-        at += n + 1;
-    }
-    state
 }
