@@ -9,6 +9,7 @@ use texts::read_text;
 // Writes the shape file, by way of `out`.
 fn show(rt: &impl Print, list: &[u8], text: &[u8], out: &mut [u8]) -> io::Result<()> {
     match read_text(list, text, out) {
+        // As: no `From` takes a u32 to a usize.
         Ok(file) => rt.write_all(&out[..file.long as usize]),
         Err(refusal) => println!(rt; "{refusal}"),
     }

@@ -78,6 +78,7 @@ fn lay_face(next: &[u8; 256], darts: usize, start: usize, plan: &mut Laid)
     loop {
         let after = usize::from(next[dart]);
         let last = after == start;
+        // As: a dart is below 256, so `u8::try_from` would ask for an error that there is not.
         plan.push(Turn {
             dart: dart as u8,
             last,

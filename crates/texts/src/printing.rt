@@ -17,6 +17,7 @@ fn digits_long(n: usize) -> usize
     ensures long { result ≡ length (decimal n) }
     ensures most { result ≤ 20 }
 {
+    // As: no `From` takes a u32 to a usize.
     n.checked_ilog10().unwrap_or(0) as usize + 1
 }
 

@@ -84,6 +84,7 @@ fn read_word(s: &[u8]) -> Option<(u8, u8, &[u8])>
     }
     let rest = read_space(&s[long..])?;
     let right = zeros_in(digits);
+    // As: both are at most 255, so `u8::try_from` would ask for an error that there is not.
     Some((right as u8, (digits.len() - right) as u8, rest))
 }
 
