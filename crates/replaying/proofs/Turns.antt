@@ -3,7 +3,6 @@ use mathlib.Core.Path.{◌≡◌, refl, sym, ap, subst, ◌∙◌}
 use mathlib.Core.Bool.{Bool, true, false}
 use mathlib.Core.List.{List, [], ◌∷◌}
 use Prim.Native.Nat.{ℕ, zero, suc, ◌+◌, ◌-◌, ◌≤◌, ◌<◌, min}
-use native.Mathlib.Numerals.{add-one}
 use native.Mathlib.Omega.{arith}
 use borrow.Author.Tests.{le-ltb, eq-eqb, ne_eqb, eqb-false, leb-true, leb-false}
 use lib.Dec.{eqb, leb}
@@ -16,9 +15,8 @@ use Rattle.refusals.specs.Numbers.{number_of}
 use Rattle.refusals.specs.declared.Refusal.{Refusal}
 use Rattle.fields.specs.Writing.{over}
 use Rattle.embedding.specs.Read.{place_of}
-use Rattle.embedding.proofs.Fronted.{place_most}
 use Rattle.embedding.proofs.Numbers.{number_some}
-use Rattle.plates.specs.Answers.{Listed, listed}
+use Rattle.plates.specs.Answers.{Listed}
 use Rattle.plates.specs.Files.{list_fault, plate_of}
 use Rattle.plates.specs.Listing.{Gives}
 use Rattle.plates.specs.Journal.{Step, step_fault, list_after, replayed_list, EditWith, EditSays}
@@ -26,7 +24,7 @@ use Rattle.plates.proofs.Journal.{journal}
 use Rattle.replaying.specs.declared.replay.Stop.{Stop}
 use Rattle.replaying.specs.declared.replay.Stop.TheVariants as S
 use Rattle.replaying.specs.Lines.{step_in, lines_of, step_before, steps_in}
-use Rattle.replaying.specs.Replays.{Through, Refused, Stopped, outcome_of, Stand, stand, going, on_fault, on_step, on_line, is_through, over_lines, Replayed}
+use Rattle.replaying.specs.Replays.{Through, Refused, outcome_of, Stand, stand, going, on_fault, on_line, is_through, over_lines, Replayed}
 use Rattle.replaying.proofs.Rows.{parted, lines_front}
 
 -- the list that is left

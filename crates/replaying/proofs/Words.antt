@@ -1,22 +1,19 @@
 -- The space between two numbers, and the numbers, as code comes to them.
-use mathlib.Core.Path.{◌≡◌, refl, sym, ap, ap₂, ◌∙◌}
-use mathlib.Core.Bool.{Bool, true, false, ◌&&◌, not, cond}
+use mathlib.Core.Path.{◌≡◌, refl, ap, ap₂, ◌∙◌}
+use mathlib.Core.Bool.{Bool, true, false, not, cond}
 use mathlib.Core.List.{List, [], ◌∷◌}
-use Prim.Native.Nat.{ℕ, suc, ◌+◌, ◌-◌, ◌≤◌, ◌<◌}
+use Prim.Native.Nat.{ℕ, suc, ◌+◌, ◌-◌}
 use native.Mathlib.Omega.{arith}
 use lib.Dec.{eqb, ltb}
 use lib.ListN.{length, take, drop}
 use Rattle.std.proofs.Common.{Option, Some, None, position}
-use Rattle.std.specs.Cmp.Lexicographic.{pointwise}
 use Rattle.std.specs.List.{position_or_len}
-use Rattle.std.specs.Option.{option_map}
 use Rattle.finite.specs.Base.{pick}
 use Rattle.finite.proofs.Tests.{eqb_turned}
 use Rattle.finite.proofs.Lent.{rest_lent}
 use Rattle.embedding.specs.Read.{place_of}
 use Rattle.embedding.specs.declared.journal.Step.{Step}
-use Rattle.embedding.specs.declared.journal.Step.TheVariants.{Split, Hang, Join}
-use Rattle.replaying.specs.Lines.{begins_with, split_word, hang_word, join_word, number_in, join_of, join_in, step_in}
+use Rattle.replaying.specs.Lines.{number_in, join_of, join_in}
 
 -- the library's place of a space
 place_is : (s : List ℕ) → position_or_len (λ (x : ℕ). eqb x 32) s ≡ place_of 32 s

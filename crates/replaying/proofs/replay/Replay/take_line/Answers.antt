@@ -1,6 +1,6 @@
 -- `take_line` holds the list after the step, or the list before it and why the line is not taken.
-use mathlib.Core.Path.{◌≡◌, refl, sym, ◌∙◌}
-use lib.ListN.{length, take}
+use mathlib.Core.Path.{◌≡◌, refl}
+use lib.ListN.{take}
 use Rattle.std.proofs.Common.{rules, Ok, Err, Some}
 use Rattle.plates.specs.Answers.{listed_of}
 use Rattle.replaying.specs.declared.replay.Stop.TheVariants as S

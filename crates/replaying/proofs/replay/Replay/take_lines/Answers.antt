@@ -1,11 +1,11 @@
 -- `take_lines` takes one line after another, up to the first that is refused or no step.
 use mathlib.Core.Path.{◌≡◌, sym, ap, ◌∙◌}
 use mathlib.Core.Bool.{false}
-use Prim.Native.Nat.{ℕ, ◌+◌, ◌-◌, ◌≤◌, ◌<◌}
+use Prim.Native.Nat.{ℕ, ◌-◌}
 use native.Mathlib.Omega.{arith}
 use lib.ListN.{length, take, drop}
 use lib.Seq.{length-take-le}
-use Rattle.std.proofs.Common.{rules, Ok, Err}
+use Rattle.std.proofs.Common.{rules, Err}
 use Rattle.embedding.proofs.Fronted.{place_most}
 use Rattle.replaying.proofs.Turns.{some_left, rest_behind, going_on, going_ended, going_done}
 use Rattle.replaying.proofs.replay.Replay.take_lines.Goals as goal
