@@ -40,11 +40,7 @@ fn say_refused(rt: &impl Print, refusal: Refusal, memory: &[u8]) -> io::Result<(
 }
 
 // Writes what shaping answers and what it left in the memory, which was filled with 0xee.
-fn say_shaped(
-    rt: &impl Print,
-    shaped: Result<Written, Refusal>,
-    memory: &[u8],
-) -> io::Result<()> {
+fn say_shaped(rt: &impl Print, shaped: Result<Written, Refusal>, memory: &[u8]) -> io::Result<()> {
     match shaped {
         Ok(Written { long, bends }) => {
             print!(rt; ": 0 length {long} bends {bends} bytes")?;
@@ -72,7 +68,10 @@ fn check(rt: &impl Print, label: &str, list: &[u8], shape: &[u8]) -> io::Result<
     match check_shape(list, shape) {
         Ok(sound) => {
             let ours = if sound.ours { "yes" } else { "no" };
-            println!(rt; "0 total {} fewest {} ours {ours}", sound.total, sound.fewest)
+            println!(rt;
+                "0 total {} fewest {} ours {ours}",
+                sound.total, sound.fewest
+            )
         }
         Err(refusal) => println!(rt; "{}", refusal.number()),
     }
