@@ -3,4 +3,5 @@ pub mod Capped
 pub mod Words
 pub mod Forms
 pub mod Rows
+pub mod Cuts
 pub mod Turns

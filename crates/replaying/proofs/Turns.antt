@@ -2,15 +2,14 @@
 use mathlib.Core.Path.{◌≡◌, refl, sym, ap, subst, ◌∙◌}
 use mathlib.Core.Bool.{Bool, true, false}
 use mathlib.Core.List.{List, [], ◌∷◌}
-use Prim.Native.Nat.{ℕ, zero, suc, ◌+◌, ◌-◌, ◌≤◌, ◌<◌, min}
+use Prim.Native.Nat.{ℕ, zero, suc, ◌+◌, ◌≤◌, ◌<◌}
 use native.Mathlib.Omega.{arith}
-use borrow.Author.Tests.{le-ltb, eq-eqb, ne_eqb, eqb-false, leb-true, leb-false}
-use lib.Dec.{eqb, leb}
-use lib.ListN.{length, take, drop, length-drop, drop_of_length-le}
+use borrow.Author.Tests.{le-ltb, eq-eqb, ne_eqb}
+use lib.Dec.{eqb}
+use lib.ListN.{length, take, drop, length-drop}
 use lib.Seq.{take_at}
 use Rattle.std.proofs.Common.{Option, Some, None, Result, Ok, Err}
 use Rattle.finite.specs.Base.{pick, pick_t, first_of}
-use Rattle.finite.proofs.Lent.{rest_lent}
 use Rattle.refusals.specs.Numbers.{number_of}
 use Rattle.refusals.specs.declared.Refusal.{Refusal}
 use Rattle.fields.specs.Writing.{over}
@@ -51,8 +50,12 @@ pub record Going (s j u t : List ℕ) (line : ℕ) : Type 0 where
   pub rest : over_lines (going t line) (lines_of u) ≡ over_lines (going s 0) (lines_of j)
   pub few : line + length u ≤ length j
 
-pub going_start : (s j : List ℕ) {line : ℕ} → line ≡ 0 → Going s j j s line
-going_start s j e = record { rest = ap (λ (n : ℕ). over_lines (going s n) (lines_of j)) e; few = omega arith }
+pub going_start : (s : List ℕ) {j u : List ℕ} {line : ℕ} → u ≡ j → line ≡ 0 → Going s j u s line
+going_start s {j} {u} {line} u-is e =
+    record {
+      rest = ap (over_lines (going s line)) (ap lines_of u-is) ∙ ap (λ (n : ℕ). over_lines (going s n) (lines_of j)) e;
+      few = omega (arith, ap (λ (l : List ℕ). length l) u-is);
+    }
 
 pub going_done : {s j u t : List ℕ} {line : ℕ} → Going s j u t line → length u ≡ 0 → Replayed s j (going t line)
 going_done {s} {j} {u} {t} {line} g e = replayed (by u e g.rest)
@@ -68,21 +71,6 @@ not_through S.NoStep = refl
 line_more : (z : Stand) (x : Option Step) → (on_line z x).line ≡ z.line + 1
 line_more z (Some t) = refl
 line_more z None = refl
-
-pub some_left : (u : List ℕ) {b : Bool} → b ≡ eqb (length u) 0 → b ≡ false → 0 < length u
-some_left u e f = let n : length u ≡ 0 → ⊥ = eqb-false (length u) 0 (sym e ∙ f) in omega (arith, n)
-
--- the rest behind a line of n bytes, as it is lent
-pub rest_behind : (u : List ℕ) (n : ℕ) → take (length u - min (length u) (n + 1)) (drop (min (length u) (n + 1)) u) ≡ drop (suc n) u
-rest_behind u n = rest_lent u (min (length u) (n + 1)) ∙ by (leb (n + 1) (length u)) (leb-true (n + 1) (length u)) (leb-false (n + 1) (length u))
-  where
-    by : (b : Bool) → (b ≡ true → n + 1 ≤ length u) → (b ≡ false → length u < n + 1) → drop (min (length u) (n + 1)) u ≡ drop (suc n) u
-    by true h k = let l : n + 1 ≤ length u = h refl in ap (λ (m : ℕ). drop m u) {x = min (length u) (n + 1)} {y = suc n} (omega arith)
-    by false h k =
-        let l : length u < n + 1 = k refl in
-        let m : length u ≤ min (length u) (n + 1) = omega arith in
-        let e : length u ≤ suc n = omega arith in
-        drop_of_length-le u m ∙ sym (drop_of_length-le u e)
 
 -- a line taken: n is the end of the first line of u
 module _ {s j u t : List ℕ} {line : ℕ} (g : Going s j u t line) (some : 0 < length u) {n : ℕ} (n-is : n ≡ place_of 10 u) where

@@ -84,11 +84,8 @@ impl Replay {
         requires { (self.old.line ≡ 0) × (length journal.now ≤ 65535) }
         ensures { Replayed (take self.old.long self.old.list) journal.now (stand (take self.new.long self.new.list) self.new.line result) }
     {
-        let mut rest = journal;
-        while !rest.is_empty() {
-            let n = place_of(b'\n', rest);
-            self.take_line(&rest[..n])?;
-            rest = &rest[rest.len().min(n + 1)..];
+        for line in journal.split_inclusive(|byte| *byte == b'\n') {
+            self.take_line(line.strip_suffix(b"\n").unwrap_or(line))?;
         }
         Ok(())
     }

@@ -1,35 +1,47 @@
 -- `take_lines` takes one line after another, up to the first that is refused or no step.
-use mathlib.Core.Path.{◌≡◌, sym, ap, ◌∙◌}
-use mathlib.Core.Bool.{false}
-use Prim.Native.Nat.{ℕ, ◌-◌}
+use mathlib.Core.Path.{◌≡◌, refl, ap, ◌∙◌}
+use mathlib.Core.List.{List}
+use Prim.Native.Nat.{ℕ}
 use native.Mathlib.Omega.{arith}
-use lib.ListN.{length, take, drop}
-use lib.Seq.{length-take-le}
+use lib.Dec.{eqb}
+use lib.ListN.{take}
+use denote.Bor.{Bor}
 use Rattle.std.proofs.Common.{rules, Err}
-use Rattle.embedding.proofs.Fronted.{place_most}
-use Rattle.replaying.proofs.Turns.{some_left, rest_behind, going_on, going_ended, going_done}
+use Rattle.std.specs.Slice.Iter.{split_inclusive_rest}
+use Rattle.std.proofs.lemmas.List.Sorted.{answers_always}
+use Rattle.replaying.specs.Lines.{step_in}
+use Rattle.replaying.specs.Replays.{going, on_line}
+use Rattle.replaying.proofs.Cuts.{cut_line, cut_now}
+use Rattle.replaying.proofs.Turns.{going_start, going_on, going_ended, going_done}
 use Rattle.replaying.proofs.replay.Replay.take_lines.Goals as goal
 
-pub slice_bounds-take_line-end : goal.slice_bounds-take_line-end
-slice_bounds-take_line-end c = sym (length-take-le _ _ (omega (arith, c.place_of-n.ensures, place_most 10 c.loop-rest.rest.now)))
+pub loop-line-init : goal.loop-line-init
+loop-line-init c =
+    let whole : split_inclusive_rest c.into_iter-line-iterator.result ≡ c.args.journal.now = search rules in
+    going_start (take c.args.self.now.long c.args.self.now.list) whole c.requires.0
+
+pub take_line-requires : goal.take_line-requires
+take_line-requires c = omega (arith, c.loop-line.invariant.few, c.in-Some.ensures.steps.2, c.requires.1)
 
 pub returns-in_err-take_line : goal.returns-in_err-take_line
 returns-in_err-take_line c =
     let told : c.from_residual.result ≡ Err c.in_err-take_line.field-0.0 = search rules in
-    let some : c.is_empty.result ≡ false = search rules in
-    rw told (going_ended c.loop-rest.invariant (some_left c.loop-rest.rest.now c.is_empty.ensures some) c.place_of-n.ensures c.in_err-take_line.field-0.0 c.in_err-take_line.ensures)
+    let y = c.in-Some.ensures.steps in
+    let key = y.1.2 (λ (b : ℕ). eqb b 10) (answers_always _ _ _ (λ f a r g h. search (rules, h))) in
+    let cut = cut_line _ _ _ y.1.0 y.0 y.1.1 y.2 key.1 in
+    rw told (going_ended c.loop-line.invariant y.2 refl c.in_err-take_line.field-0.0
+    (c.in_err-take_line.ensures ∙ ap (λ (w : List ℕ). on_line (going (take c.loop-line.self.long c.loop-line.self.list) c.loop-line.self.line) (step_in w))
+    (ap (λ (b : Bor (List ℕ)). b.now) c.unwrap_or.ensures ∙ cut_now cut c.strip_suffix.result c.in-Some.line refl c.strip_suffix.ensures.cases)))
 
-pub overflow_add-n : goal.overflow_add-n
-overflow_add-n c = omega (arith, c.place_of-n.ensures, place_most 10 c.loop-rest.rest.now, c.loop-rest.invariant.few, c.requires.1)
-
-pub loop-rest-preserved : goal.loop-rest-preserved
-loop-rest-preserved c =
-    let u = c.loop-rest.rest.now in
-    let some : c.is_empty.result ≡ false = search rules in
-    going_on c.loop-rest.invariant (some_left c.loop-rest.rest.now c.is_empty.ensures some) c.place_of-n.ensures c.in_ok-take_line.field-0 c.in_ok-take_line.ensures
-    (ap (λ (m : ℕ). take (length u - m) (drop m u)) c.min.ensures ∙ rest_behind u c.place_of-n.result)
+pub loop-line-preserved : goal.loop-line-preserved
+loop-line-preserved c =
+    let y = c.in-Some.ensures.steps in
+    let key = y.1.2 (λ (b : ℕ). eqb b 10) (answers_always _ _ _ (λ f a r g h. search (rules, h))) in
+    let cut = cut_line _ _ _ y.1.0 y.0 y.1.1 y.2 key.1 in
+    going_on c.loop-line.invariant y.2 refl c.in_ok-take_line.field-0
+    (c.in_ok-take_line.ensures ∙ ap (λ (w : List ℕ). on_line (going (take c.loop-line.self.long c.loop-line.self.list) c.loop-line.self.line) (step_in w))
+    (ap (λ (b : Bor (List ℕ)). b.now) c.unwrap_or.ensures ∙ cut_now cut c.strip_suffix.result c.in-Some.line refl c.strip_suffix.ensures.cases))
+    cut.rest
 
 pub returns : goal.returns
-returns c =
-    let none : length c.loop-rest.rest.now ≡ 0 = search rules in
-    going_done c.loop-rest.invariant none
+returns c = let y = c.in-None.ensures.steps in going_done c.loop-line.invariant y.0
