@@ -1,5 +1,6 @@
 //! The journal's lines over a plate list, one at a time.
 ghost use Rattle.std.specs.Prelude.{◌≡◌, ◌≤◌, ◌<◌, length, take, IfOk};
+ghost use Rattle.refusals.specs.Numbers.{fault_of};
 ghost use Rattle.plates.specs.Files.{list_fault};
 ghost use Rattle.replaying.specs.Lines.{step_in};
 ghost use Rattle.replaying.specs.Replays.{stand, going, on_line, Replayed};
@@ -7,7 +8,6 @@ ghost use Rattle.replaying.specs.declared.replay.Stop.TheVariants.{Refused};
 
 use crate::lines::step_in;
 use edits::edit_list;
-use embedding::journal::place_of;
 use plates::reading::read_list;
 use refusals::Refusal;
 
@@ -40,7 +40,8 @@ impl Replay {
     /// Before the first line. A list that is refused has no replay.
     pub fn start(list: [u8; 1024], long: usize) -> Result<Replay, Refusal>
         requires { long ≤ 1024 }
-        ensures { IfOk result (λ replay. (take replay.long replay.list ≡ take long list) × (replay.line ≡ 0)) }
+        ensures number { fault_of result ≡ list_fault (take long list) }
+        ensures begun { IfOk result (λ replay. (take replay.long replay.list ≡ take long list) × (replay.line ≡ 0)) }
     {
         read_list(&list[..long])?;
         Ok(Replay {
