@@ -22,7 +22,7 @@ Function = collections.namedtuple("Function", "place name params result contract
 
 def split_params(text):
     parts, depth, now = [], 0, ""
-    for c in text:
+    for c in text.replace("->", ""):
         depth += c in "([{<"
         depth -= c in ")]}>"
         if c == "," and depth == 0:
@@ -35,11 +35,15 @@ def split_params(text):
 def functions():
     found = []
     for p, t in sources.items():
-        for m in re.finditer(r"^[ ]*(?:pub )?(?:extern \"C\" )?fn (\w+)[^(\n]*\(", t, re.M):
-            depth, i = 1, m.end()
+        for m in re.finditer(r"^[ ]*(?:pub(?:\(crate\))? )?(?:extern \"C\" )?fn (\w+)(<)?", t, re.M):
+            depth, i = len(m.group(2) or ""), m.end()
+            while depth:
+                depth += {"<": 1, ">": t[i - 1] != "-" and -1}.get(t[i], 0); i += 1
+            depth, i = 1, t.index("(", i) + 1
+            begin = i
             while depth:
                 depth += {"(": 1, ")": -1}.get(t[i], 0); i += 1
-            params = split_params(t[m.end():i - 1])
+            params = split_params(t[begin:i - 1])
             indent = re.match(r"[ ]*", t[m.start():]).group()
             stop = re.search(rf"^{indent}\}}", t[i:], re.M)
             whole = t[i:i + stop.start()] if stop else ""
