@@ -1,6 +1,6 @@
 -- The best shape of a plate: demand 3; the network.
 use Rattle.std.specs.Prelude.{◌≡◌, ◌⊎◌, Bool, true, ◌&&◌, List, [], ◌∷◌, ℕ, zero, suc, ◌+◌, ◌*◌, ◌≤◌, eqb, leb, length, get_or}
-pub use Rattle.embedding.specs.Read.{Accepted, Standing}
+pub use Rattle.embedding.specs.Read.{Accepted}
 use Rattle.embedding.specs.Plates.{pick, when, is_in, Plate, darts, twin, ends_at, faces, face_of}
 use Rattle.shapes.specs.Shapes.{Shape, meets, bends, comes_first, rights_of, total, shape_of}
 

@@ -4,7 +4,7 @@ use lib.Dec.{eqb}
 use Rattle.std.proofs.lemmas.Iterator.{YieldsList-from_range}
 use Rattle.std.proofs.lemmas.Iterator.Search.{all_from_yields_List}
 use Rattle.shapes.specs.Judge.{all_four}
-use Rattle.shapes.proofs.Chains.{all_upward}
+use Rattle.shapes.proofs.ListTests.{all_upward}
 use Rattle.shapes.proofs.judge.all_four.Goals as goal
 
 pub returns : goal.returns

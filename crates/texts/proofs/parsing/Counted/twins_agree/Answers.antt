@@ -2,7 +2,7 @@
 use Rattle.std.proofs.Common.{rules, tests, arith, refl, ◌∙◌, ◌&&◌, eqb, get_or}
 use Rattle.std.proofs.lemmas.Iterator.{YieldsList-from_range}
 use Rattle.std.proofs.lemmas.Iterator.Search.{all_from_yields_List}
-use Rattle.shapes.proofs.Chains.{all_upward}
+use Rattle.shapes.proofs.ListTests.{all_upward}
 use Rattle.plates.specs.Plates.{twin}
 use Rattle.texts.specs.Parses.{twin_counts}
 use Rattle.texts.proofs.parsing.Counted.twins_agree.Goals as goal

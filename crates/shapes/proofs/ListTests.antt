@@ -1,13 +1,11 @@
--- Tests of all of a list, and sums over one, as the library's words and as our definitions.
+-- Tests of every number of a list, as the library's words and as our definitions.
 use mathlib.Core.Path.{◌≡◌, refl, sym, ap, ◌∙◌}
 use mathlib.Core.Bool.{Bool, true, ◌&&◌}
 use mathlib.Core.List.{List, [], ◌∷◌}
 use Prim.Native.Nat.{ℕ, zero, suc, ◌+◌}
 use native.Mathlib.Numerals.{add-one}
 use lib.Dec.{leb}
-use Rattle.std.specs.List.{list_all, range_with_len, sum_by}
-use Rattle.std.proofs.lemmas.List.Sums.{sum_by-cons}
-use Rattle.finite.specs.Base.{total}
+use Rattle.std.specs.List.{list_all, range_with_len}
 use Rattle.finite.proofs.Tests.{and_assoc}
 
 -- each number from 1 to m
@@ -23,11 +21,6 @@ all_upward F t none more zero v = sym (none v)
 all_upward F t none more (suc n) v =
     ap (λ (w : ℕ). t v && list_all t (range_with_len w n)) (add-one v)
     ∙ ap (λ (b : Bool). t v && b) (all_upward F t none more n (suc v)) ∙ sym (more n v)
-
--- the sum of a list
-pub total_sum_by : (xs : List ℕ) → sum_by (λ x. x) xs ≡ total xs
-total_sum_by [] = refl
-total_sum_by (x ∷ xs) = sum_by-cons (λ x. x) x xs ∙ ap (λ (k : ℕ). x + k) (total_sum_by xs)
 
 -- numbers counted from one further on
 pub all_shift : (t : ℕ → Bool) (n v : ℕ) → list_all t (range_with_len (v + 1) n) ≡ list_all (λ i. t (suc i)) (range_with_len v n)
