@@ -11,6 +11,7 @@ pub returns : goal.returns
 returns c =
     let n = c.min-strips.result in
     let ls = c.args.limits.now in
-    let bs = pair_sums c.args.rights.now in
+    let rights = c.args.counts.rights.now in
+    let bs = pair_sums rights in
     all_from_yields_List (keeps_at ls bs) _ _ c.all.result c.all.ensures.ran (YieldsList-from_range 0 n n refl (omega arith)) (λ x b q k. search (rules, tests))
-    ∙ within_upto n ls bs (omega (arith, sums_long (length c.args.rights.now / 2) c.args.rights.now (omega arith)))
+    ∙ within_upto n ls bs (omega (arith, sums_long (length rights / 2) rights (omega (arith, c.args.counts.counted.same_length, c.args.counts.counted.even_length))))
