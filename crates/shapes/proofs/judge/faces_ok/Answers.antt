@@ -1,15 +1,12 @@
 -- `faces_ok`: the sums are those of the plate that is held.
 use mathlib.Core.Path.{◌∙◌}
 use native.Mathlib.Omega.{arith}
-use Rattle.shapes.proofs.HeldPlate.{few_faces, face_below, outer_few}
+use Rattle.shapes.proofs.HeldPlate.{few_faces, face_below}
 use Rattle.shapes.proofs.Verdict.{faces_tested}
 use Rattle.shapes.proofs.judge.faces_ok.Goals as goal
 
 pub invariant_of-face-clause-below : goal.invariant_of-face-clause-below
 invariant_of-face-clause-below c = face_below c.args.q
-
-pub of-outer-requires : goal.of-outer-requires
-of-outer-requires c = (omega arith, rw c.from.ensures (outer_few c.args.q))
 
 pub all_turn-requires : goal.all_turn-requires
 all_turn-requires c = few_faces c.args.q

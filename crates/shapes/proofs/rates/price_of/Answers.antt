@@ -10,12 +10,6 @@ use Rattle.shapes.proofs.Pairs.{sums_long}
 use Rattle.shapes.proofs.StripLoops.{priced_at, priced_upto, product_few}
 use Rattle.shapes.proofs.rates.price_of.Goals as goal
 
-pub overflow_mul-sum : goal.overflow_mul-sum
-overflow_mul-sum c = omega (arith, product_few c.given_or.result c.strip_bends.result c.given_or.ensures.1 c.strip_bends.ensures.1)
-
-pub overflow_add-sum : goal.overflow_add-sum
-overflow_add-sum c = omega (arith, c.loop-i.invariant.1, product_few c.given_or.result c.strip_bends.result c.given_or.ensures.1 c.strip_bends.ensures.1)
-
 pub loop-i-preserved : goal.loop-i-preserved
 loop-i-preserved c =
     let l = c.loop-i in
