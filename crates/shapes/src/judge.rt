@@ -92,7 +92,7 @@ fn all_four(sums: [u32; 64], n: usize) -> bool
     (0..n).all(|v| sums[v] == 4)
 }
 
-// The turns of a face add to + 4, or to - 4 if it is the outer one.
+// The turns of a face add to + 4, or to - 4 if it is the outer one. The flag is data of the face, and the definition takes it too.
 fn turns_ok(outer: bool, plus: u32, minus: u32) -> bool
     ensures { result ≡ turns_ok outer plus minus }
 {
