@@ -12,9 +12,9 @@ use Rattle.shapes.proofs.Tables.{length_table, get_d_table, get_d_first, get_d_s
 use Rattle.shapes.proofs.Pairs.{by_pairs, length_pairs, pairs_low, pairs_high, units_pairs, cost_pairs}
 
 -- each arc is a dart's or one of two of a corner
-pub by-arcs : (P : ℕ → Type 0) (m : ℕ) → ((d : ℕ) → d < m → P d) → ((d : ℕ) → d < m → P (m + (d + d))) → ((d : ℕ) → d < m → P (m + suc (d + d)))
+pub arc_cases : (P : ℕ → Type 0) (m : ℕ) → ((d : ℕ) → d < m → P d) → ((d : ℕ) → d < m → P (m + (d + d))) → ((d : ℕ) → d < m → P (m + suc (d + d)))
     → (a : ℕ) → a < m + (m + m) → P a
-by-arcs P m bend low high = by_parts P m (m + m) bend (by_pairs (λ i. P (m + i)) m low high)
+arc_cases P m bend low high = by_parts P m (m + m) bend (by_pairs (λ i. P (m + i)) m low high)
 
 module _ (m : ℕ) (f g h : ℕ → ℕ) where
   pub arcs_long : length (by_arc m f g h) ≡ m + (m + m)

@@ -69,7 +69,7 @@ module _ (p : Plate) (o : Ordered p) (xs cs : List ℕ) (xs_long : length xs ≡
       record {
         corners_long = cs-long;
         units_long = xs_long;
-        corner-most = λ d l.
+        corner_range = λ d l.
             let k : darts p + d < arcs (network_of p) = omega (arith, arcs_are p) in
             (omega (arith, f.above (darts p + d) k, two_second (darts p) 0 1 d l, corner_units d), corner_four d l (f.below (darts p + d) k));
         post_four = λ v l. omega (arith, f.kept v (omega (arith, nodes_are p)), post_out p o xs cs xs_long cs-long v l, post_in p o xs cs xs_long cs-long v l, post_supply p v l, post_demand p v l);
@@ -86,10 +86,10 @@ module _ (p : Plate) (o : Ordered p) (xs cs : List ℕ) (xs_long : length xs ≡
         long = omega (arith, arcs_are p, length-append xs cs);
         above = λ a l. by_parts (λ a. lower (network_of p) a ≤ get_or (xs ++ cs) a 0) (darts p) (darts p)
             (λ d k. omega (arith, two_first (darts p) 0 1 d k))
-            (λ d k. omega (arith, two_second (darts p) 0 1 d k, corner_units d, (f.corner-most d k).0)) a (omega (arith, arcs_are p));
+            (λ d k. omega (arith, two_second (darts p) 0 1 d k, corner_units d, (f.corner_range d k).0)) a (omega (arith, arcs_are p));
         below = λ a l. by_parts (λ a. (upper (network_of p) a ≡ unbounded) ⊎ (get_or (xs ++ cs) a 0 ≤ upper (network_of p) a)) (darts p) (darts p)
             (λ d k. inl (two_first (darts p) unbounded 4 d k))
-            (λ d k. inr (omega (arith, two_second (darts p) unbounded 4 d k, corner_units d, (f.corner-most d k).1))) a (omega (arith, arcs_are p));
+            (λ d k. inr (omega (arith, two_second (darts p) unbounded 4 d k, corner_units d, (f.corner_range d k).1))) a (omega (arith, arcs_are p));
         kept = λ v l. by_parts Kept p.posts (length (faces p))
             (λ v k. omega (arith, f.post_four v k, post_out p o xs cs xs_long cs-long v k, post_in p o xs cs xs_long cs-long v k, post_supply p v k, post_demand p v k))
             (λ i k. balanced_kept i k (f.face_kept i k)) v (omega (arith, nodes_are p));

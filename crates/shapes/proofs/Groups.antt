@@ -14,9 +14,9 @@ use Rattle.finite.proofs.Tables.{table_set}
 use Rattle.embedding.specs.Plates.{when}
 use Rattle.shapes.specs.Judge.{group_sum}
 
-pub group-sum : (n : ℕ) (key g : ℕ → ℕ) (k : ℕ) → group_sum n key g k ≡ sum_below n (λ i. when (eqb (key i) k) (g i))
-group-sum zero key g k = refl
-group-sum (suc n) key g k = omega (arith, group-sum n key g k, sum_last n (λ i. when (eqb (key i) k) (g i)))
+pub group_sum_below : (n : ℕ) (key g : ℕ → ℕ) (k : ℕ) → group_sum n key g k ≡ sum_below n (λ i. when (eqb (key i) k) (g i))
+group_sum_below zero key g k = refl
+group_sum_below (suc n) key g k = omega (arith, group_sum_below n key g k, sum_last n (λ i. when (eqb (key i) k) (g i)))
 
 -- the sums by m keys of the first d of n numbers
 pub record Adding (m n : ℕ) (key g : ℕ → ℕ) (d : ℕ) (sums : List ℕ) : Type 0 where

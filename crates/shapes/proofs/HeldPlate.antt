@@ -19,8 +19,8 @@ use Rattle.embedding.proofs.Degrees.{darts_most, darts_few}
 use Rattle.shapes.proofs.Accepted.{faultless, ordered}
 use Rattle.shapes.proofs.Places.{index_below}
 
-all-below : (n : ℕ) (xs : List ℕ) → ((i : ℕ) → i < length xs → get_or xs i 0 < n) → all_below n xs ≡ true
-all-below n xs h = each_over (all_below n) (λ x. ltb x n) refl (λ x xs. refl) xs (λ i l. lt-ltb (get_or xs i 0) n (h i l))
+each_below : (n : ℕ) (xs : List ℕ) → ((i : ℕ) → i < length xs → get_or xs i 0 < n) → all_below n xs ≡ true
+each_below n xs h = each_over (all_below n) (λ x. ltb x n) refl (λ x xs. refl) xs (λ i l. lt-ltb (get_or xs i 0) n (h i l))
 
 module _ (q : Held) where
   abbrev p : Plate
@@ -48,14 +48,14 @@ module _ (q : Held) where
   faces_are d l = q.stands.face_numbers.at d (omega (arith, few_darts, q.stands.dart_count)) ∙ up_below (darts p) (face_number p) d l
 
   pub ends_below : all_below 64 q.ends ≡ true
-  ends_below = all-below 64 q.ends (λ i l. at i l (dec_lt i (darts p)))
+  ends_below = each_below 64 q.ends (λ i l. at i l (dec_lt i (darts p)))
     where
       at : (i : ℕ) → i < length q.ends → Dec (i < darts p) → get_or q.ends i 0 < 64
       at i l (yes k) = omega (arith, q.stands.strip_ends.at i (omega (arith, q.stands.strip_ends.size)), leaves_below p o i k, f.posts_most)
       at i l (no k) = omega (arith, q.stands.strip_ends.at i (omega (arith, q.stands.strip_ends.size)), get_or-eq_default p.ends 0 {n = i} (omega arith))
 
   pub face_below : all_below 66 q.face ≡ true
-  face_below = all-below 66 q.face (λ i l. at i l (dec_lt i (darts p)))
+  face_below = each_below 66 q.face (λ i l. at i l (dec_lt i (darts p)))
     where
       at : (i : ℕ) → i < length q.face → Dec (i < darts p) → get_or q.face i 0 < 66
       at i l (yes k) = omega (arith, faces_are i k, index_below p o i k, q.stands.face_count, few_faces)

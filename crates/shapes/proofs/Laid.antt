@@ -86,9 +86,9 @@ module _ (q : Held) where
       ∙ ap (λ (n : ℕ). eqb n 2) (q.stands.post_degrees.at (ends_at p d) (omega (arith, f.posts_most)) ∙ up_below p.posts (degree p) (ends_at p d) k)
 
   -- one number of each arc
-  by-arc : (field : Arc → ℕ) → field no_arc ≡ 0 → (f g h : ℕ → ℕ) → {f₀ g₀ h₀ : ℕ → Arc} {ys xs : List Arc} → Begun no_arc (q.darts + (q.darts + q.darts)) f₀ q.darts ys → CornersLaid q.darts g₀ h₀ q.darts ys xs
+  field_laid : (field : Arc → ℕ) → field no_arc ≡ 0 → (f g h : ℕ → ℕ) → {f₀ g₀ h₀ : ℕ → Arc} {ys xs : List Arc} → Begun no_arc (q.darts + (q.darts + q.darts)) f₀ q.darts ys → CornersLaid q.darts g₀ h₀ q.darts ys xs
       → ((d : ℕ) → d < q.darts → field (f₀ d) ≡ f d) → ((d : ℕ) → d < q.darts → field (g₀ d) ≡ g d) → ((d : ℕ) → d < q.darts → field (h₀ d) ≡ h d) → map field xs ≡ by_arc (darts p) f g h
-  by-arc field none f g h b c bend low high = arcs_laid field none b c f g h bend low high ∙ ap (λ (n : ℕ). by_arc n f g h) q.stands.dart_count
+  field_laid field none f g h b c bend low high = arcs_laid field none b c f g h bend low high ∙ ap (λ (n : ℕ). by_arc n f g h) q.stands.dart_count
 
   outer_test : (i : ℕ) → i < length (faces p) → eqb (q.posts + i) outer ≡ is_outer p (get_or (faces p) i 0)
   outer_test i l =
@@ -127,12 +127,12 @@ module _ (q : Held) where
       → Begun no_node (q.posts + q.faces) (node q) (q.posts + q.faces) nodes
       → network_from arcs nodes ≡ rated_of (meant q) (rates limits prices)
   network_laid limits prices {nodes = nodes} b c n = λ i. record {
-    tails = by-arc (λ arc. arc.tail) refl (λ d. face_node p d) (λ d. ends_at p d) (λ d. ends_at p d) b c node_is ends_are ends_are i;
-    heads = by-arc (λ arc. arc.head) refl (λ d. face_node p (twin d)) (λ d. face_node p d) (λ d. face_node p d) b c (λ d l. node_is (twin d) (twin_below d l)) node_is node_is i;
-    lowers = by-arc (λ arc. arc.lower) refl (λ d. 0) (λ d. 1) (λ d. 0) b c (λ d l. refl) (λ d l. refl) (λ d l. refl) i;
-    uppers = by-arc (λ arc. arc.upper) refl (λ d. bend_most limits d) (λ d. pick (is_joint p d) 2 4) (λ d. pick (is_joint p d) 1 0) b c (λ d l. refl)
+    tails = field_laid (λ arc. arc.tail) refl (λ d. face_node p d) (λ d. ends_at p d) (λ d. ends_at p d) b c node_is ends_are ends_are i;
+    heads = field_laid (λ arc. arc.head) refl (λ d. face_node p (twin d)) (λ d. face_node p d) (λ d. face_node p d) b c (λ d l. node_is (twin d) (twin_below d l)) node_is node_is i;
+    lowers = field_laid (λ arc. arc.lower) refl (λ d. 0) (λ d. 1) (λ d. 0) b c (λ d l. refl) (λ d l. refl) (λ d l. refl) i;
+    uppers = field_laid (λ arc. arc.upper) refl (λ d. bend_most limits d) (λ d. pick (is_joint p d) 2 4) (λ d. pick (is_joint p d) 1 0) b c (λ d l. refl)
         (λ d l. ap (λ (b : Bool). pick b 2 4) (joint_is d l)) (λ d l. ap (λ (b : Bool). pick b 1 0) (joint_is d l)) i;
-    costs = by-arc (λ arc. arc.cost) refl (λ d. bend_cost prices d) (λ d. 0) (λ d. 65536) b c (λ d l. refl) (λ d l. refl) (λ d l. refl) i;
+    costs = field_laid (λ arc. arc.cost) refl (λ d. bend_cost prices d) (λ d. 0) (λ d. 65536) b c (λ d l. refl) (λ d l. refl) (λ d l. refl) i;
     supplies = supplies_are (supplies_of nodes) (nodes_laid (λ node. node.supply) refl n) i;
     demands = demands_are (demands_of nodes) (nodes_laid (λ node. node.demand) refl n) i;
   }

@@ -22,7 +22,7 @@ use Rattle.shapes.proofs.Nodes.{arcs_are}
 use Rattle.shapes.proofs.Flows.{flow_is_flow, is_flow_flow}
 use Rattle.shapes.proofs.Strips.{price_at}
 use Rattle.shapes.proofs.Pairs.{sums_at, sums_long}
-use Rattle.shapes.proofs.Arcs.{by-arcs, arcs_long, at_bend, at_low, at_high, units_one, cost_arcs}
+use Rattle.shapes.proofs.Arcs.{arc_cases, arcs_long, at_bend, at_low, at_high, units_one, cost_arcs}
 
 -- the bounds of the arcs
 pub record Fits (p : Plate) (r : Rates) (xs zs : List ℕ) : Type 0 where
@@ -39,8 +39,8 @@ small_uppers : (b : Bool) → (pick b 2 4 < 65535) × (pick b 1 0 < 65535)
 small_uppers true = (omega arith, omega arith)
 small_uppers false = (omega arith, omega arith)
 
-bend-cost : (q x : ℕ) → (q * 4294967296 + 1) * x ≡ 4294967296 * (q * x) + x
-bend-cost q x = omega (arith, add-mul (q * 4294967296) 1 x, ap (λ (k : ℕ). k * x) (mul_comm q 4294967296), mul_assoc 4294967296 q x)
+cost_parts : (q x : ℕ) → (q * 4294967296 + 1) * x ≡ 4294967296 * (q * x) + x
+cost_parts q x = omega (arith, add-mul (q * 4294967296) 1 x, ap (λ (k : ℕ). k * x) (mul_comm q 4294967296), mul_assoc 4294967296 q x)
 
 module _ (p : Plate) (r : Rates) where
   pub rated_arcs : arcs (rated_of p r) ≡ darts p + (darts p + darts p)
@@ -108,11 +108,11 @@ module _ (p : Plate) (r : Rates) where
         let f = is_flow_flow p o xs (pair_sums zs) e in
         record {
           long = omega (arith, rated_arcs, length-append xs zs);
-          above = λ a l. by-arcs (λ a. lower (rated_of p r) a ≤ get_or (xs ++ zs) a 0) (darts p)
+          above = λ a l. arc_cases (λ a. lower (rated_of p r) a ≤ get_or (xs ++ zs) a 0) (darts p)
               (λ d k. omega (arith, at_bend (darts p) (λ d. 0) (λ d. 1) (λ d. 0) d k))
               (λ d k. omega (arith, at_low (darts p) (λ d. 0) (λ d. 1) (λ d. 0) d k, x_low d, b.low_least d k))
               (λ d k. omega (arith, at_high (darts p) (λ d. 0) (λ d. 1) (λ d. 0) d k)) a (omega (arith, rated_arcs));
-          below = λ a l. by-arcs (λ a. (upper (rated_of p r) a ≡ unbounded) ⊎ (get_or (xs ++ zs) a 0 ≤ upper (rated_of p r) a)) (darts p)
+          below = λ a l. arc_cases (λ a. (upper (rated_of p r) a ≡ unbounded) ⊎ (get_or (xs ++ zs) a 0 ≤ upper (rated_of p r) a)) (darts p)
               (λ d k.
               subst (λ (u : ℕ). (u ≡ unbounded) ⊎ (get_or (xs ++ zs) d 0 ≤ u)) (sym (at_bend (darts p) (λ d. bend_most r.limits d) (λ d. pick (is_joint p d) 2 4) (λ d. pick (is_joint p d) 1 0) d k))
               (subst (λ (x : ℕ). (bend_most r.limits d ≡ unbounded) ⊎ (x ≤ bend_most r.limits d)) (sym (x_bend d k)) (b.bend-most d k)))
@@ -133,7 +133,7 @@ module _ (p : Plate) (r : Rates) where
         omega (
           arith,
           cost_arcs (darts p) (λ d. bend_cost r.prices d) 65536 xs zs xs_long zs_long,
-          sum_cong (darts p) (λ d. bend_cost r.prices d * get_or xs d 0) (λ d. 4294967296 * (price_at r.prices d * get_or xs d 0) + get_or xs d 0) (λ d l. bend-cost (price_at r.prices d) (get_or xs d 0)),
+          sum_cong (darts p) (λ d. bend_cost r.prices d * get_or xs d 0) (λ d. 4294967296 * (price_at r.prices d * get_or xs d 0) + get_or xs d 0) (λ d l. cost_parts (price_at r.prices d) (get_or xs d 0)),
           sum_add (darts p) (λ d. 4294967296 * (price_at r.prices d * get_or xs d 0)) (λ d. get_or xs d 0),
           sum_times 4294967296 (darts p) (λ d. price_at r.prices d * get_or xs d 0),
           total_sum xs,

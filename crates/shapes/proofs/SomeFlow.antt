@@ -87,7 +87,7 @@ module _ (p : Plate) (f : Faultless p) (o : Ordered p) where
   some_flow = facts_is_flow p some_corners some_units (record {
     corners_long = length_table (darts p) (angle p f o);
     units_long = length_table (darts p) moved.0;
-    corner-most = λ d l. (omega (arith, get_d_table (darts p) (angle p f o) d l), omega (arith, get_d_table (darts p) (angle p f o) d l, angle_most p f o d l));
+    corner_range = λ d l. (omega (arith, get_d_table (darts p) (angle p f o) d l), omega (arith, get_d_table (darts p) (angle p f o) d l, angle_most p f o d l));
     post_four = λ v l.
         sum_cong (darts p) (λ d. when (eqb (ends_at p d) v) (get_or some_corners d 0)) (λ d. when (eqb (ends_at p d) v) (angle p f o d))
         (λ d k. ap (when (eqb (ends_at p d) v)) (get_d_table (darts p) (angle p f o) d k)) ∙ angles_fill p f o v l;

@@ -55,7 +55,7 @@ module _ (p : Plate) (o : Ordered p) (ys : List ℕ) where
       facts_is_flow p cs straightened (record {
         corners_long = f.corners_long;
         units_long = length_table (darts p) (λ d. get_or ys d 0 - both d);
-        corner-most = f.corner-most;
+        corner_range = f.corner_range;
         post_four = f.post_four;
         face_kept = λ i l. kept (get_or (faces p) i 0) (face_below_darts p o i l) (f.face_kept i l);
       })

@@ -52,8 +52,8 @@ abbrev pub is_flow : Plate → List ℕ → List ℕ → Bool
 is_flow p cs xs = eqb (length cs) (darts p) && (eqb (length xs) (darts p) && (units_ok cs && (posts_supply p.posts 0 p cs && all_balanced p cs xs (faces p))))
 
 pub record Network (p : Plate) : Type 0 where
-  pub flow-of : (s : Shape) → meets p s ≡ true → (cs xs : List ℕ) × (is_flow p cs xs ≡ true) × (total xs ≡ bends s)
-  pub shape-of : (cs xs : List ℕ) → is_flow p cs xs ≡ true → (s : Shape) × (meets p s ≡ true) × (bends s ≡ total xs)
+  pub flow_for : (s : Shape) → meets p s ≡ true → (cs xs : List ℕ) × (is_flow p cs xs ≡ true) × (total xs ≡ bends s)
+  pub shape_for : (cs xs : List ℕ) → is_flow p cs xs ≡ true → (s : Shape) × (meets p s ≡ true) × (bends s ≡ total xs)
 
 pub record Demands : Type 0 where
   pub network : (p : Plate) → Accepted p → Network p
