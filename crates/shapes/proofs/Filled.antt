@@ -12,7 +12,7 @@ use Rattle.residual.specs.declared.arcs.Arc.{Arc}
 use Rattle.flow.specs.declared.nodes.Node.{Node}
 use Rattle.shapes.specs.NetworkOf.{by_arc}
 use Rattle.shapes.specs.Entries.{no_arc, no_node, Begun, CornersLaid}
-use Rattle.shapes.proofs.Tables.{get_d_first, get_d_second, by_parts}
+use Rattle.shapes.proofs.Tables.{first_at, second_at, by_parts}
 use Rattle.shapes.proofs.Arcs.{arc_cases, arcs_long, at_bend, at_low, at_high}
 
 module _ {A : Type 0} {none : A} {n : ℕ} {f : ℕ → A} {k : ℕ} {xs : List A} (b : Begun none n f k xs) where
@@ -73,5 +73,5 @@ pub parts_are : (m n : ℕ) (f : ℕ → ℕ) (xs ys zs : List ℕ) → Table (m
 parts_are m n f xs ys zs t ys_long zs_long first second =
     ext_get_or 0 xs (ys ++ zs) (omega (arith, t.size, length-append ys zs))
     (λ i l. by_parts (λ (a : ℕ). get_or xs a 0 ≡ get_or (ys ++ zs) a 0) m n
-    (λ d k. t.at d (omega arith) ∙ first d k ∙ sym (get_d_first ys zs m ys_long d k))
-    (λ d k. t.at (m + d) (omega arith) ∙ second d k ∙ sym (get_d_second ys zs m ys_long d)) i (omega (arith, t.size)))
+    (λ d k. t.at d (omega arith) ∙ first d k ∙ sym (first_at ys zs m ys_long d k))
+    (λ d k. t.at (m + d) (omega arith) ∙ second d k ∙ sym (second_at ys zs m ys_long d)) i (omega (arith, t.size)))

@@ -16,7 +16,7 @@ use Rattle.embedding.proofs.Rotation.{Ordered}
 use Rattle.shapes.specs.Claims.{corners_of, goes_out, comes_in, balanced, is_flow}
 use Rattle.shapes.specs.NetworkOf.{is_outer, face_supply, face_demand, network_of}
 use Rattle.shapes.proofs.Totals.{out_sum, in_sum, corners_sum}
-use Rattle.shapes.proofs.Tables.{get_d_second, two_first, two_second, by_parts, cost_first}
+use Rattle.shapes.proofs.Tables.{second_at, two_first, two_second, by_parts, cost_first}
 use Rattle.shapes.proofs.Nodes.{arcs_are, nodes_are, post_supply, post_demand, face-supply, face-demand, post_out, post_in, face_out, face_in}
 use Rattle.shapes.proofs.FlowFacts.{IsFlow, is_flow_facts, facts_is_flow}
 
@@ -62,7 +62,7 @@ module _ (p : Plate) (o : Ordered p) (xs cs : List ℕ) (xs_long : length xs ≡
         omega (arith, face_goes, face_comes, face-supply p i l, face-demand p i l)
 
   corner_units : (d : ℕ) → get_or (xs ++ cs) (darts p + d) 0 ≡ get_or cs d 0
-  corner_units = get_d_second xs cs (darts p) xs_long
+  corner_units = second_at xs cs (darts p) xs_long
 
   flow_facts : Flow (network_of p) (xs ++ cs) → IsFlow p cs xs
   flow_facts f =

@@ -7,7 +7,7 @@ use native.Mathlib.Numerals.{add-one}
 use native.Mathlib.Omega.{arith}
 use borrow.Author.Tests.{eq-eqb, ne_eqb}
 use lib.Dec.{eqb}
-use lib.ListN.{get_or, set, replicate, length-replicate, get_or-replicate}
+use lib.ListN.{get_or, set}
 use Rattle.finite.specs.Tables.{Table}
 use Rattle.finite.proofs.Sums.{sum_below, sum_last}
 use Rattle.finite.proofs.Tables.{table_set}
@@ -27,15 +27,7 @@ pub record Adding (m n : ℕ) (key g : ℕ → ℕ) (d : ℕ) (sums : List ℕ) 
 abbrev pub Gives : ℕ → (ℕ → ℕ × ℕ → Type 0) → (ℕ → ℕ) → (ℕ → ℕ) → Type 0
 Gives n at key g = (d : ℕ) (r : ℕ × ℕ) → d < n → at d r → (r.0 ≡ key d) × (r.1 ≡ g d)
 
-pub adding_start : {m n : ℕ} {key g : ℕ → ℕ} → Adding m n key g 0 (replicate m 0)
-adding_start {m} {n} {key} {g} = record { so_far = record { size = length-replicate m 0; at = λ i l. get_or-replicate m i 0 0 l }; within = omega arith }
-
 -- each sum of d numbers of at most 512
-pub few_start : (m k : ℕ) → get_or (replicate m 0) k 0 ≤ 0 * 512
-few_start zero k = omega arith
-few_start (suc m) zero = omega arith
-few_start (suc m) (suc k) = few_start m k
-
 pub few_more : (sums : List ℕ) (d k w : ℕ) → ((i : ℕ) → get_or sums i 0 ≤ d * 512) → w ≤ 512 → (i : ℕ) → get_or (set sums k (get_or sums k 0 + w)) i 0 ≤ (d + 1) * 512
 few_more [] d k w h few i = omega (arith, h i)
 few_more (s ∷ sums) d zero w h few zero = omega (arith, h zero)

@@ -64,8 +64,5 @@ module _ (q : Held) where
   pub outer_below : q.outer < darts (meant q)
   outer_below = omega (arith, q.stands.outer_dart, f.outer_dart)
 
-  pub outer_few : q.outer < 256
-  outer_few = omega (arith, outer_below, few_darts, q.stands.dart_count)
-
   pub few_angles : (al : List ℕ) → length al ≡ q.darts → length al ≤ 256
   few_angles al long = omega (arith, few_darts)

@@ -26,7 +26,7 @@ use Rattle.embedding.proofs.Answers.{faces_fit}
 use Rattle.shapes.specs.Rates.{rates}
 use Rattle.shapes.specs.NetworkOf.{by_arc, face_node, is_outer, face_supply, face_demand, is_joint, bend_most, bend_cost, network_of, rated_of}
 use Rattle.shapes.specs.Entries.{node_at, joint_at, supply_at, demand_at, bend_arc, corner_arc, node, no_arc, no_node, Begun, CornersLaid}
-use Rattle.shapes.proofs.Tables.{get_d_map_in}
+use Rattle.shapes.proofs.Tables.{map_at}
 use Rattle.shapes.proofs.Places.{index_below, index_test, face_below_darts}
 use Rattle.shapes.proofs.Nodes.{eqb_shift}
 use Rattle.shapes.proofs.Accepted.{faultless, ordered}
@@ -105,7 +105,7 @@ module _ (q : Held) where
       (λ v l. ap (λ (b : Bool). pick b 0 4) (ne_eqb v outer (not_outer v l)) ∙ sym (get_or-replicate p.posts v 4 0 (omega (arith, q.stands.same_posts))))
       (λ i l.
       let k : i < length (faces p) = omega (arith, q.stands.face_count) in
-      ap (λ (b : Bool). pick b 0 4) (outer_test i k) ∙ sym (get_d_map_in (face_supply p) (faces p) i k))
+      ap (λ (b : Bool). pick b 0 4) (outer_test i k) ∙ sym (map_at (face_supply p) (faces p) i k))
 
   face-demand : (i : ℕ) → i < length (faces p) → 2 * get_or q.sizes i 0 + pick (eqb (q.posts + i) outer) 4 0 ≡ face_demand p (get_or (faces p) i 0)
   face-demand i l = omega (arith, size_at i l, ap {B = ℕ} (λ (b : Bool). pick b 4 0) (outer_test i l))
@@ -120,7 +120,7 @@ module _ (q : Held) where
       let e : q.posts + i - q.posts ≡ i = omega arith in
       ap (λ (b : Bool). pick b 0 (2 * get_or q.sizes (q.posts + i - q.posts) 0 + pick (eqb (q.posts + i) outer) 4 0)) (le-ltb (q.posts + i) q.posts (omega arith))
       ∙ ap (λ (j : ℕ). 2 * get_or q.sizes j 0 + pick (eqb (q.posts + i) outer) 4 0) e
-      ∙ face-demand i k ∙ sym (get_d_map_in (face_demand p) (faces p) i k))
+      ∙ face-demand i k ∙ sym (map_at (face_demand p) (faces p) i k))
 
   pub network_laid : (limits prices : List ℕ) {ys arcs : List Arc} {nodes : List Node}
       → Begun no_arc (q.darts + (q.darts + q.darts)) (bend_arc q (rates limits prices)) q.darts ys → CornersLaid q.darts (corner_arc q true) (corner_arc q false) q.darts ys arcs

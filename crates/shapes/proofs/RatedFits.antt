@@ -18,7 +18,7 @@ use Rattle.shapes.specs.Shapes.{Shape, total, rights_of, shape_of}
 use Rattle.shapes.specs.Claims.{is_flow}
 use Rattle.shapes.specs.Rates.{Rates, Fair, BestBy}
 use Rattle.shapes.specs.NetworkOf.{network_of}
-use Rattle.shapes.proofs.Tables.{get_d_first, two_first}
+use Rattle.shapes.proofs.Tables.{first_at, two_first}
 use Rattle.shapes.proofs.Nodes.{arcs_are}
 use Rattle.shapes.proofs.Flows.{is_flow_flow, parted_flow}
 use Rattle.shapes.proofs.SoundNetwork.{network_sound}
@@ -82,7 +82,7 @@ module _ (p : Plate) (f : Faultless p) (o : Ordered p) (r : Rates) (fair : Fair 
   left_flow = parted_flow p o trimmed.flow trimmed.is-flow
 
   no_more : (d : ℕ) → d < darts p → get_or ys d 0 ≤ get_or xs d 0
-  no_more d l = omega (arith, get_or-take (darts p) trimmed.flow d 0 l, trimmed.below d, get_d_first xs cs (darts p) xs_long d l)
+  no_more d l = omega (arith, get_or-take (darts p) trimmed.flow d 0 l, trimmed.below d, first_at xs cs (darts p) xs_long d l)
 
   nothing_taken : (d : ℕ) → d < darts p → get_or ys d 0 ≡ get_or xs d 0
   nothing_taken = as_many ds ys left_flow no_more

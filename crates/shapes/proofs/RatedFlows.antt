@@ -17,7 +17,7 @@ use Rattle.shapes.specs.Shapes.{total}
 use Rattle.shapes.specs.Claims.{is_flow}
 use Rattle.shapes.specs.Rates.{Rates, pair_sums}
 use Rattle.shapes.specs.NetworkOf.{face_node, is_joint, bend_most, bend_cost, network_of, rated_of}
-use Rattle.shapes.proofs.Tables.{get_d_first, get_d_second, two_first, two_second, by_parts}
+use Rattle.shapes.proofs.Tables.{first_at, second_at, two_first, two_second, by_parts}
 use Rattle.shapes.proofs.Nodes.{arcs_are}
 use Rattle.shapes.proofs.Flows.{flow_is_flow, is_flow_flow}
 use Rattle.shapes.proofs.Strips.{price_at}
@@ -54,13 +54,13 @@ module _ (p : Plate) (r : Rates) where
     high d = get_or zs (suc (d + d)) 0
 
     x_bend : (d : ℕ) → d < darts p → get_or (xs ++ zs) d 0 ≡ get_or xs d 0
-    x_bend d l = get_d_first xs zs (darts p) xs_long d l
+    x_bend d l = first_at xs zs (darts p) xs_long d l
 
     x_low : (d : ℕ) → get_or (xs ++ zs) (darts p + (d + d)) 0 ≡ low d
-    x_low d = get_d_second xs zs (darts p) xs_long (d + d)
+    x_low d = second_at xs zs (darts p) xs_long (d + d)
 
     x_high : (d : ℕ) → get_or (xs ++ zs) (darts p + suc (d + d)) 0 ≡ high d
-    x_high d = get_d_second xs zs (darts p) xs_long (suc (d + d))
+    x_high d = second_at xs zs (darts p) xs_long (suc (d + d))
 
     bound : (u x : ℕ) → u < 65535 → (u ≡ unbounded) ⊎ (x ≤ u) → x ≤ u
     bound u x l (inl e) = absurd (omega arith)
@@ -87,7 +87,7 @@ module _ (p : Plate) (r : Rates) where
     heads_one v = units_one (darts p) (λ d. face_node p (twin d)) (λ d. face_node p d) xs zs v xs_long zs_long
 
     cs_at : (d : ℕ) → d < darts p → get_or (xs ++ pair_sums zs) (darts p + d) 0 ≡ low d + high d
-    cs_at d l = get_d_second xs (pair_sums zs) (darts p) xs_long d ∙ sums_at zs d
+    cs_at d l = second_at xs (pair_sums zs) (darts p) xs_long d ∙ sums_at zs d
 
     pub flow_plain : Flow (rated_of p r) (xs ++ zs) → is_flow p (pair_sums zs) xs ≡ true
     flow_plain f =
