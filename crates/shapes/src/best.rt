@@ -118,6 +118,7 @@ pub fn best_by(q: Plate, by: StripRates) -> Option<BestShape>
 }
 
 /// The best shape of an accepted plate: no limits, and each bend costs 1.
+// A plate list has a method of this name, within the limits that the list gives.
 pub fn best(q: Plate) -> BestShape
     ensures { BestHeld (meant q) result }
 {

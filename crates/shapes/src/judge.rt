@@ -21,7 +21,7 @@ struct Keys<'a, const N: usize> {
 }
 
 impl<const N: usize> Keys<'_, N> {
-    // The post or the face of dart `d`.
+    // The post or the face of dart `d`. Like `post_at` of a plate, which reads another table.
     fn of(self, d: usize) -> usize
         requires { d < 256 }
         ensures { (result ≡ get_or self.entry.by_dart.now d 0) × (result < N) }
@@ -30,6 +30,7 @@ impl<const N: usize> Keys<'_, N> {
     }
 }
 
+// Is each angle 1 to 4? Like `prices_ok` but for the range: each is the name of a definition.
 fn angles_ok(s: &[u8]) -> bool
     ensures { result ≡ angles_ok s.now }
 {

@@ -6,7 +6,7 @@ use Rattle.shapes.proofs.Laid.{held_size}
 use Rattle.shapes.proofs.network.demand_of.Goals as goal
 
 pub offset_bounds-q-v : goal.offset_bounds-q-v
-offset_bounds-q-v c = omega (arith, few_posts c.args.q.now, few_faces c.args.q.now)
+offset_bounds-q-v c = omega (arith, few_faces c.args.q.now)
 
 pub bounds-q-v : goal.bounds-q-v
 bounds-q-v c = omega (arith, few_faces c.args.q.now)

@@ -16,7 +16,7 @@ loop-i-preserved c =
     let price = c.given_or.ensures in
     let bends = c.strip_bends.ensures in (
       omega (arith, l.invariant.0, sum_more l.i (priced_at c.args.prices.now (pair_sums c.args.counts.rights.now)), ap₂ (λ (a b : ℕ). a * b) price.0 bends.0),
-      omega (arith, l.invariant.1, product_few c.given_or.result c.strip_bends.result price.1 bends.1),
+      omega (arith, l.invariant.1, product_few _ _ price.1 bends.1),
     )
 
 pub returns : goal.returns

@@ -11,4 +11,4 @@ returns g c =
     let d = c.args.d in
     let key = get_or keys.by_dart.now d 0 in
     let below : key < g.row.N = all_in g.row.N key keys.by_dart.now keys.below (get_d_in keys.by_dart.now d (omega (arith, keys.long, c.requires))) in
-    (c.from.ensures, omega (arith, c.from.ensures))
+    (c.from.ensures, omega arith)
