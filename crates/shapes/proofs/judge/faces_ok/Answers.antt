@@ -12,10 +12,4 @@ pub all_turn-requires : goal.all_turn-requires
 all_turn-requires c = few_faces c.args.q
 
 pub returns : goal.returns
-returns c =
-    let counts = c.args.counts in
-    let plus = c.face_plus-plus in
-    let minus = c.face_minus-minus in
-    let outer = c.of-outer in
-    c.all_turn.ensures
-    ∙ faces_tested c.args.q counts.angles.now c.requires counts.rights.now (omega (arith, counts.counted.same_length)) plus.result minus.result outer.result plus.ensures minus.ensures (rw c.from.ensures at outer.ensures.0)
+returns c = c.all_turn.ensures ∙ faces_tested c.args.q _ c.requires _ (omega arith) _ _ _ c.face_plus-plus.ensures c.face_minus-minus.ensures (rw c.from.ensures at c.of-outer.ensures.0)

@@ -8,9 +8,7 @@ pub invariant_of-ends-clause-below : goal.invariant_of-ends-clause-below
 invariant_of-ends-clause-below c = ends_below c.args.q
 
 pub post_angles-requires : goal.post_angles-requires
-post_angles-requires c = few_angles c.args.q c.args.angles.now c.requires
+post_angles-requires c = few_angles c.args.q _ c.requires
 
 pub returns : goal.returns
-returns c =
-    let sums = c.post_angles in
-    c.all_four.ensures ∙ posts_tested c.args.q c.args.angles.now c.requires sums.result sums.ensures
+returns c = c.all_four.ensures ∙ posts_tested c.args.q _ c.requires _ c.post_angles.ensures

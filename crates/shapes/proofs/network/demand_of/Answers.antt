@@ -1,7 +1,7 @@
 -- `demand_of`: a face is one of 66, and has no more than 256 darts.
 use Prim.Native.Nat.{◌-◌}
 use native.Mathlib.Omega.{arith}
-use Rattle.shapes.proofs.HeldPlate.{few_posts, few_faces}
+use Rattle.shapes.proofs.HeldPlate.{few_faces}
 use Rattle.shapes.proofs.Laid.{held_size}
 use Rattle.shapes.proofs.network.demand_of.Goals as goal
 

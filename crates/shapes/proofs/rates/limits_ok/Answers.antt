@@ -13,4 +13,4 @@ returns c =
     let rights = c.args.counts.rights.now in
     let bs = pair_sums rights in
     all_tried (keeps_at ls bs) n c.all.result c.all.ensures.ran (λ x b q k. search (rules, tests))
-    ∙ within_upto n ls bs (omega (arith, sums_long (length rights / 2) rights (omega (arith, c.args.counts.counted.same_length, c.args.counts.counted.even_length))))
+    ∙ within_upto n ls bs (omega (arith, sums_long (length rights / 2) rights (omega arith)))

@@ -25,4 +25,4 @@ returns c =
     let n = length rights / 2 in
     let g = priced_at c.args.prices.now (pair_sums rights) in
     c.loop-i.invariant.0 ∙ ap (λ (k : ℕ). sum_below k g) (le_antisymm c.loop-i.auto.i-end c.loop-i-test.false)
-    ∙ priced_upto n c.args.prices.now (pair_sums rights) (sums_long n rights (omega (arith, c.args.counts.counted.same_length, c.args.counts.counted.even_length)))
+    ∙ priced_upto n c.args.prices.now (pair_sums rights) (sums_long n rights (omega arith))
