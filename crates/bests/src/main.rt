@@ -76,49 +76,52 @@ fn show(rt: &impl Print, label: &[u8], list: PlateList) -> io::Result<()> {
     }
 }
 
-// Writes a line: the label and the best shape within limits and by prices.
-fn show_by(rt: &impl Print, label: &[u8], list: PlateList, by: StripRates) -> io::Result<()> {
+// Writes a line: the label and the best shape within limits and by prices. They come as two slices, so that a case stays one line.
+fn show_by(
+    rt: &impl Print,
+    label: &[u8],
+    list: PlateList,
+    limits: &[u8],
+    prices: &[u8],
+) -> io::Result<()> {
     rt.write_all(label)?;
     let Ok(q) = list.read() else {
         return println!(rt; " refused");
     };
-    if !prices_ok(by.prices) {
+    if !prices_ok(prices) {
         return println!(rt; " prices refused");
     }
-    match best_by(q, by) {
+    match best_by(q, StripRates { limits, prices }) {
         Some(shape) => show_shape(rt, list.ends.len(), shape),
         None => println!(rt; " no shape"),
     }
 }
 
-// P1 within limits and by prices.
-fn p1_by(rt: &impl Print, label: &[u8], limits: &[u8], prices: &[u8]) -> io::Result<()> {
-    show_by(rt, label, P1, StripRates { limits, prices })
-}
-
-fn p7_by(rt: &impl Print, label: &[u8], limits: &[u8], prices: &[u8]) -> io::Result<()> {
-    show_by(rt, label, P7, StripRates { limits, prices })
-}
-
 fn rated_to_try(rt: &impl Print) -> io::Result<()> {
     // One bend for each strip.
-    p1_by(rt, b"P1, limits 1 1", b"\x01\x01", b"")?;
-    p1_by(rt, b"P1, limits 1 0", b"\x01\x00", b"")?;
-    p1_by(rt, b"P1, limits 255 0", b"\xff\x00", b"")?;
-    p1_by(rt, b"P1, prices 1 100", b"", b"\x01\x64")?;
-    p1_by(rt, b"P1, prices 1 0", b"", b"\x01\x00")?;
-    p1_by(rt, b"P1, prices 1 101", b"", b"\x01\x65")
+    show_by(rt, b"P1, limits 1 1", P1, b"\x01\x01", b"")?;
+    show_by(rt, b"P1, limits 1 0", P1, b"\x01\x00", b"")?;
+    show_by(rt, b"P1, limits 255 0", P1, b"\xff\x00", b"")?;
+    show_by(rt, b"P1, prices 1 100", P1, b"", b"\x01\x64")?;
+    show_by(rt, b"P1, prices 1 0", P1, b"", b"\x01\x00")?;
+    show_by(rt, b"P1, prices 1 101", P1, b"", b"\x01\x65")
 }
 
 fn more_rated_to_try(rt: &impl Print) -> io::Result<()> {
-    p7_by(rt, b"P7, limit 1", b"\x01", b"")?;
-    p7_by(rt, b"P7, limits 1 255 1", b"\x01\xff\x01", b"")?;
+    show_by(rt, b"P7, limit 1", P7, b"\x01", b"")?;
+    show_by(rt, b"P7, limits 1 255 1", P7, b"\x01\xff\x01", b"")?;
     // More bends cost less.
-    p7_by(rt, b"P7, prices 9 1 1", b"", b"\x09\x01\x01")?;
-    p7_by(rt, b"P7, limit 1, prices 1 9 1", b"\x01", b"\x01\x09\x01")
+    show_by(rt, b"P7, prices 9 1 1", P7, b"", b"\x09\x01\x01")?;
+    show_by(
+        rt,
+        b"P7, limit 1, prices 1 9 1",
+        P7,
+        b"\x01",
+        b"\x01\x09\x01",
+    )
 }
 
-// The verdict on a shape of P1 with these angles and right bends.
+// Writes a line: the label and the verdict on a shape of P1. Angles and right bends come as two slices, so that a case stays short.
 fn verdict(rt: &impl Print, label: &[u8], angles: &[u8], rights: &[u8]) -> io::Result<()> {
     rt.write_all(label)?;
     let Ok(q) = P1.read() else {

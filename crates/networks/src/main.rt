@@ -10,7 +10,7 @@ use flow::solve::solve;
 use residual::arcs::Arc;
 use std::io;
 
-// Six arcs between four nodes.
+// Six arcs between four nodes. Arrays of fixed size: a network is a constant.
 #[derive(Clone, Copy)]
 struct Network {
     arcs: [Arc; 6],

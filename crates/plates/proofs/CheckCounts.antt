@@ -13,7 +13,7 @@ use Rattle.plates.specs.Answers.{verdict}
 use Rattle.plates.specs.Says.{word, angles_in, rights_in, check_fault, CheckWith, CheckSays}
 use Rattle.plates.specs.declared.reading.ShapeFile.{ShapeFile}
 use Rattle.plates.proofs.HeldLists.{list_darts}
-use Rattle.plates.proofs.CheckSound.{file_many, judged_fault, total_fault, limit_fault, no_counts_fault}
+use Rattle.plates.proofs.CheckSound.{file_many, judged_fault, total_fault, limit_fault, counts_pass}
 
 module _ (f : ShapeFile) where
   abbrev s : List ℕ
@@ -44,7 +44,7 @@ module _ (f : ShapeFile) where
         file_limits = limit_fault s t f.list.accepted f.accepted number_is z (said ∙ ap word f.total_said) (sum ∙ ap total f.rights) y within_is
 
         pub file_sound : w ≡ true → 0 ≡ check_fault s t
-        file_sound = no_counts_fault s t f.list.accepted f.accepted number_is z (said ∙ ap word f.total_said) (sum ∙ ap total f.rights) y within_is
+        file_sound = counts_pass s t f.list.accepted f.accepted number_is z (said ∙ ap word f.total_said) (sum ∙ ap total f.rights) y within_is
 
   -- a sound file, against the counts of the best shape
   pub file_verdict : {a x : List ℕ} {n fewest : ℕ} {ours : Bool} → check_fault s t ≡ 0 → BestCounts s a x → n ≡ total f.counts.rights.now → fewest ≡ total x → ours ≡ (same a f.counts.angles.now && same x f.counts.rights.now)

@@ -92,5 +92,5 @@ module _ (s t : List ℕ) where
             pub limit_fault : w ≡ false → 25 ≡ check_fault s t
             limit_fault f = sym (after_total ∙ ap (λ (b : Bool). when (not b) 25) f)
 
-            pub no_counts_fault : w ≡ true → 0 ≡ check_fault s t
-            no_counts_fault f = sym (after_total ∙ ap (λ (b : Bool). when (not b) 25) f)
+            pub counts_pass : w ≡ true → 0 ≡ check_fault s t
+            counts_pass f = sym (after_total ∙ ap (λ (b : Bool). when (not b) 25) f)

@@ -88,4 +88,4 @@ listing_short s a r e bytes best counts =
     (omega (arith, byte_at c 0 (contents_bytes false s bytes 1), byte_at c 1 (contents_bytes false s bytes 1)))
     (omega (arith, total_fit s a r e bytes best counts))
     (omega (arith, many, (list_fields s (list_walked s e)).ends_most))
-    (λ d l. (omega (arith, unit_fit s a r e bytes best counts d l), omega (arith, flow.corner-most d (omega (arith, many)))))
+    (λ d l. (omega (arith, unit_fit s a r e bytes best counts d l), omega (arith, flow.corner_range d (omega (arith, many)))))

@@ -38,7 +38,7 @@ impl ShapeFile<'_> {
         if number(self.total) != self.counts.total() as usize {
             return Err(Refusal::TotalDiffers);
         }
-        if !limits_ok(self.list.limits(), self.counts.rights) {
+        if !limits_ok(self.list.limits(), self.counts) {
             return Err(Refusal::LimitPassed);
         }
         Ok(())

@@ -13,7 +13,7 @@ use Rattle.finite.proofs.Sums.{sum_below, sum_le, sum_tight}
 use Rattle.embedding.specs.Plates.{pick}
 use Rattle.shapes.specs.Shapes.{smaller}
 use Rattle.shapes.specs.NetworkOf.{table, pairs}
-use Rattle.shapes.proofs.Tables.{length_table, get_d_table}
+use Rattle.shapes.proofs.Tables.{length_table, table_at}
 use Rattle.shapes.proofs.Pairs.{by_pairs, length_pairs, pairs_low, pairs_high, sums_at, sums_long}
 use Rattle.shapes.specs.Rates.{pair_sums}
 
@@ -60,7 +60,7 @@ split_order (suc n) t c e =
     ∙ step_order (t 0) (c 0) (e 0) (smaller (table n (λ i. c (suc i))) (table n (λ i. e (suc i))))
 
 pub table_of : (xs : List ℕ) → table (length xs) (λ d. get_or xs d 0) ≡ xs
-table_of xs = ext_get_or 0 (table (length xs) (λ d. get_or xs d 0)) xs (length_table (length xs) (λ d. get_or xs d 0)) (λ i l. get_d_table (length xs) (λ d. get_or xs d 0) i (omega (arith, length_table (length xs) (λ d. get_or xs d 0))))
+table_of xs = ext_get_or 0 (table (length xs) (λ d. get_or xs d 0)) xs (length_table (length xs) (λ d. get_or xs d 0)) (λ i l. table_at (length xs) (λ d. get_or xs d 0) i (omega (arith, length_table (length xs) (λ d. get_or xs d 0))))
 
 -- n corners apart
 module _ (t : ℕ → Bool) (n : ℕ) where

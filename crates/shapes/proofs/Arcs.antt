@@ -8,26 +8,26 @@ use Rattle.finite.proofs.Sums.{sum_below}
 use Rattle.flow.specs.Network.{units_at, cost_of}
 use Rattle.shapes.specs.Rates.{pair_sums}
 use Rattle.shapes.specs.NetworkOf.{table, pairs, by_arc}
-use Rattle.shapes.proofs.Tables.{length_table, get_d_table, get_d_first, get_d_second, by_parts, units_append}
+use Rattle.shapes.proofs.Tables.{length_table, table_at, first_at, second_at, by_parts, units_append}
 use Rattle.shapes.proofs.Pairs.{by_pairs, length_pairs, pairs_low, pairs_high, units_pairs, cost_pairs}
 
 -- each arc is a dart's or one of two of a corner
-pub by-arcs : (P : ℕ → Type 0) (m : ℕ) → ((d : ℕ) → d < m → P d) → ((d : ℕ) → d < m → P (m + (d + d))) → ((d : ℕ) → d < m → P (m + suc (d + d)))
+pub arc_cases : (P : ℕ → Type 0) (m : ℕ) → ((d : ℕ) → d < m → P d) → ((d : ℕ) → d < m → P (m + (d + d))) → ((d : ℕ) → d < m → P (m + suc (d + d)))
     → (a : ℕ) → a < m + (m + m) → P a
-by-arcs P m bend low high = by_parts P m (m + m) bend (by_pairs (λ i. P (m + i)) m low high)
+arc_cases P m bend low high = by_parts P m (m + m) bend (by_pairs (λ i. P (m + i)) m low high)
 
 module _ (m : ℕ) (f g h : ℕ → ℕ) where
   pub arcs_long : length (by_arc m f g h) ≡ m + (m + m)
   arcs_long = omega (arith, length-append (table m f) (pairs m g h), length_table m f, length_pairs m g h)
 
   pub at_bend : (d : ℕ) → d < m → get_or (by_arc m f g h) d 0 ≡ f d
-  at_bend d l = get_d_first (table m f) (pairs m g h) m (length_table m f) d l ∙ get_d_table m f d l
+  at_bend d l = first_at (table m f) (pairs m g h) m (length_table m f) d l ∙ table_at m f d l
 
   pub at_low : (d : ℕ) → d < m → get_or (by_arc m f g h) (m + (d + d)) 0 ≡ g d
-  at_low d l = get_d_second (table m f) (pairs m g h) m (length_table m f) (d + d) ∙ pairs_low m g h d l
+  at_low d l = second_at (table m f) (pairs m g h) m (length_table m f) (d + d) ∙ pairs_low m g h d l
 
   pub at_high : (d : ℕ) → d < m → get_or (by_arc m f g h) (m + suc (d + d)) 0 ≡ h d
-  at_high d l = get_d_second (table m f) (pairs m g h) m (length_table m f) (suc (d + d)) ∙ pairs_high m g h d l
+  at_high d l = second_at (table m f) (pairs m g h) m (length_table m f) (suc (d + d)) ∙ pairs_high m g h d l
 
 -- units on the two arcs of a corner are units on one
 pub units_one : (m : ℕ) (f g : ℕ → ℕ) (xs zs : List ℕ) (v : ℕ) → length xs ≡ m → length zs ≡ m + m

@@ -106,7 +106,7 @@ module _ (p : Plate) (o : Ordered p) (cs xs : List ℕ) (f : IsFlow p cs xs) whe
           as_many,
           end_add p v two over,
           end_add p v lack (λ d. two d + over d),
-          end_le p v (λ d. 1) (λ d. lack d + (two d + over d)) (λ d k. (angle_parts (c d) (f.corner-most d k).0 (f.corner-most d k).1).0),
+          end_le p v (λ d. 1) (λ d. lack d + (two d + over d)) (λ d k. (angle_parts (c d) (f.corner_range d k).0 (f.corner_range d k).1).0),
         )
 
     few : 3 * end_sum p over v + 2 * end_sum p two v ≤ 4
@@ -120,7 +120,7 @@ module _ (p : Plate) (o : Ordered p) (cs xs : List ℕ) (f : IsFlow p cs xs) whe
           end_add p v two two,
           end_add p v (λ d. lack d + lack d) (λ d. two d + two d),
           end_add p v over (λ d. (lack d + lack d) + (two d + two d)),
-          end_le p v (λ d. over d + ((lack d + lack d) + (two d + two d))) (λ d. 1 + 1) (λ d k. omega (arith, (angle_parts (c d) (f.corner-most d k).0 (f.corner-most d k).1).1)),
+          end_le p v (λ d. over d + ((lack d + lack d) + (two d + two d))) (λ d. 1 + 1) (λ d k. omega (arith, (angle_parts (c d) (f.corner_range d k).0 (f.corner_range d k).1).1)),
         )
 
     over_two : end_sum p over v ≡ when (eqb (straights_from (darts p) 0 p v cs) 0) 1

@@ -12,8 +12,8 @@ use Rattle.residual.specs.declared.arcs.Arc.{Arc}
 use Rattle.flow.specs.declared.nodes.Node.{Node}
 use Rattle.shapes.specs.NetworkOf.{by_arc}
 use Rattle.shapes.specs.Entries.{no_arc, no_node, Begun, CornersLaid}
-use Rattle.shapes.proofs.Tables.{get_d_first, get_d_second, by_parts}
-use Rattle.shapes.proofs.Arcs.{by-arcs, arcs_long, at_bend, at_low, at_high}
+use Rattle.shapes.proofs.Tables.{first_at, second_at, by_parts}
+use Rattle.shapes.proofs.Arcs.{arc_cases, arcs_long, at_bend, at_low, at_high}
 
 module _ {A : Type 0} {none : A} {n : ℕ} {f : ℕ → A} {k : ℕ} {xs : List A} (b : Begun none n f k xs) where
   pub begun_more : {w : A} → k < length xs → w ≡ f k → Begun none n f (k + 1) (set xs k w)
@@ -50,7 +50,7 @@ pub arcs_laid : (field : Arc → ℕ) → field no_arc ≡ 0 → {m : ℕ} {f g 
     → ((d : ℕ) → d < m → field (f d) ≡ f' d) → ((d : ℕ) → d < m → field (g d) ≡ g' d) → ((d : ℕ) → d < m → field (h d) ≡ h' d) → map field xs ≡ by_arc m f' g' h'
 arcs_laid field none {m} {f} {g} {h} {ys} {xs} b c f' g' h' bend low high =
     ext_get_or 0 (map field xs) (by_arc m f' g' h') (length-map xs field ∙ c.size ∙ b.size ∙ sym (arcs_long m f' g' h'))
-    (λ i l. by-arcs (λ a. get_or (map field xs) a 0 ≡ get_or (by_arc m f' g' h') a 0) m
+    (λ i l. arc_cases (λ a. get_or (map field xs) a 0 ≡ get_or (by_arc m f' g' h') a 0) m
     (λ d n. at d ∙ ap field (c.bend d n ∙ b.below d n) ∙ bend d n ∙ sym (at_bend m f' g' h' d n))
     (λ d n. ap (λ (a : ℕ). get_or (map field xs) a 0) (first_is d) ∙ at (m + d + d) ∙ ap field (c.first d n) ∙ low d n ∙ sym (at_low m f' g' h' d n))
     (λ d n. ap (λ (a : ℕ). get_or (map field xs) a 0) (second_is d) ∙ at (m + d + d + 1) ∙ ap field (c.second d n) ∙ high d n ∙ sym (at_high m f' g' h' d n)) i (omega (arith, b.size, c.size, length-map xs field)))
@@ -73,5 +73,5 @@ pub parts_are : (m n : ℕ) (f : ℕ → ℕ) (xs ys zs : List ℕ) → Table (m
 parts_are m n f xs ys zs t ys_long zs_long first second =
     ext_get_or 0 xs (ys ++ zs) (omega (arith, t.size, length-append ys zs))
     (λ i l. by_parts (λ (a : ℕ). get_or xs a 0 ≡ get_or (ys ++ zs) a 0) m n
-    (λ d k. t.at d (omega arith) ∙ first d k ∙ sym (get_d_first ys zs m ys_long d k))
-    (λ d k. t.at (m + d) (omega arith) ∙ second d k ∙ sym (get_d_second ys zs m ys_long d)) i (omega (arith, t.size)))
+    (λ d k. t.at d (omega arith) ∙ first d k ∙ sym (first_at ys zs m ys_long d k))
+    (λ d k. t.at (m + d) (omega arith) ∙ second d k ∙ sym (second_at ys zs m ys_long d)) i (omega (arith, t.size)))

@@ -17,7 +17,7 @@ use Rattle.shapes.proofs.Totals.{corners_from_sum}
 pub record IsFlow (p : Plate) (cs xs : List ℕ) : Type 0 where
   pub corners_long : length cs ≡ darts p
   pub units_long : length xs ≡ darts p
-  pub corner-most : (d : ℕ) → d < darts p → (1 ≤ get_or cs d 0) × (get_or cs d 0 ≤ 4)
+  pub corner_range : (d : ℕ) → d < darts p → (1 ≤ get_or cs d 0) × (get_or cs d 0 ≤ 4)
   pub post_four : (v : ℕ) → v < p.posts → end_sum p (λ d. get_or cs d 0) v ≡ 4
   pub face_kept : (i : ℕ) → i < length (faces p) → balanced p cs xs (get_or (faces p) i 0) ≡ true
 
@@ -47,7 +47,7 @@ module _ (p : Plate) (cs xs : List ℕ) where
       record {
         corners_long = cs-long;
         units_long = xs_long;
-        corner-most = λ d l.
+        corner_range = λ d l.
             let t = over_each units_ok one_to_four refl (λ c cs. and_assoc (leb 1 c) (leb c 4) (units_ok cs)) cs units-ok d (omega arith) in
             (leb-true 1 (get_or cs d 0) (and_left (leb 1 (get_or cs d 0)) (leb (get_or cs d 0) 4) t), leb-true (get_or cs d 0) 4 (and_right (leb 1 (get_or cs d 0)) (leb (get_or cs d 0) 4) t));
         post_four = λ v l.
@@ -60,7 +60,7 @@ module _ (p : Plate) (cs xs : List ℕ) where
   facts_is_flow f =
       and_both _ _ (eq-eqb _ _ f.corners_long) (and_both _ _ (eq-eqb _ _ f.units_long) (and_both _ _
       (each_over units_ok one_to_four refl (λ c cs. and_assoc (leb 1 c) (leb c 4) (units_ok cs)) cs
-      (λ d l. and_both _ _ (le-leb 1 (get_or cs d 0) (f.corner-most d (omega arith)).0) (le-leb (get_or cs d 0) 4 (f.corner-most d (omega arith)).1)))
+      (λ d l. and_both _ _ (le-leb 1 (get_or cs d 0) (f.corner_range d (omega arith)).0) (le-leb (get_or cs d 0) 4 (f.corner_range d (omega arith)).1)))
       (and_both _ _
       (each_from (λ n a. posts_supply n a p cs) supplied (λ a. refl) (λ n a. refl) p.posts 0 (λ v l k. eq-eqb _ _ (corners_from_sum p v cs ∙ f.post_four v (omega arith))))
       (each_over (all_balanced p cs xs) (balanced p cs xs) refl (λ d ds. refl) (faces p) f.face_kept))))

@@ -16,7 +16,7 @@ use Rattle.embedding.proofs.Rotation.{Ordered}
 use Rattle.shapes.specs.Claims.{corners_of, goes_out, comes_in, balanced, is_flow}
 use Rattle.shapes.specs.NetworkOf.{is_outer, face_supply, face_demand, network_of}
 use Rattle.shapes.proofs.Totals.{out_sum, in_sum, corners_sum}
-use Rattle.shapes.proofs.Tables.{get_d_second, two_first, two_second, by_parts, cost_first}
+use Rattle.shapes.proofs.Tables.{second_at, two_first, two_second, by_parts, cost_first}
 use Rattle.shapes.proofs.Nodes.{arcs_are, nodes_are, post_supply, post_demand, face-supply, face-demand, post_out, post_in, face_out, face_in}
 use Rattle.shapes.proofs.FlowFacts.{IsFlow, is_flow_facts, facts_is_flow}
 
@@ -62,14 +62,14 @@ module _ (p : Plate) (o : Ordered p) (xs cs : List ℕ) (xs_long : length xs ≡
         omega (arith, face_goes, face_comes, face-supply p i l, face-demand p i l)
 
   corner_units : (d : ℕ) → get_or (xs ++ cs) (darts p + d) 0 ≡ get_or cs d 0
-  corner_units = get_d_second xs cs (darts p) xs_long
+  corner_units = second_at xs cs (darts p) xs_long
 
   flow_facts : Flow (network_of p) (xs ++ cs) → IsFlow p cs xs
   flow_facts f =
       record {
         corners_long = cs-long;
         units_long = xs_long;
-        corner-most = λ d l.
+        corner_range = λ d l.
             let k : darts p + d < arcs (network_of p) = omega (arith, arcs_are p) in
             (omega (arith, f.above (darts p + d) k, two_second (darts p) 0 1 d l, corner_units d), corner_four d l (f.below (darts p + d) k));
         post_four = λ v l. omega (arith, f.kept v (omega (arith, nodes_are p)), post_out p o xs cs xs_long cs-long v l, post_in p o xs cs xs_long cs-long v l, post_supply p v l, post_demand p v l);
@@ -86,10 +86,10 @@ module _ (p : Plate) (o : Ordered p) (xs cs : List ℕ) (xs_long : length xs ≡
         long = omega (arith, arcs_are p, length-append xs cs);
         above = λ a l. by_parts (λ a. lower (network_of p) a ≤ get_or (xs ++ cs) a 0) (darts p) (darts p)
             (λ d k. omega (arith, two_first (darts p) 0 1 d k))
-            (λ d k. omega (arith, two_second (darts p) 0 1 d k, corner_units d, (f.corner-most d k).0)) a (omega (arith, arcs_are p));
+            (λ d k. omega (arith, two_second (darts p) 0 1 d k, corner_units d, (f.corner_range d k).0)) a (omega (arith, arcs_are p));
         below = λ a l. by_parts (λ a. (upper (network_of p) a ≡ unbounded) ⊎ (get_or (xs ++ cs) a 0 ≤ upper (network_of p) a)) (darts p) (darts p)
             (λ d k. inl (two_first (darts p) unbounded 4 d k))
-            (λ d k. inr (omega (arith, two_second (darts p) unbounded 4 d k, corner_units d, (f.corner-most d k).1))) a (omega (arith, arcs_are p));
+            (λ d k. inr (omega (arith, two_second (darts p) unbounded 4 d k, corner_units d, (f.corner_range d k).1))) a (omega (arith, arcs_are p));
         kept = λ v l. by_parts Kept p.posts (length (faces p))
             (λ v k. omega (arith, f.post_four v k, post_out p o xs cs xs_long cs-long v k, post_in p o xs cs xs_long cs-long v k, post_supply p v k, post_demand p v k))
             (λ i k. balanced_kept i k (f.face_kept i k)) v (omega (arith, nodes_are p));

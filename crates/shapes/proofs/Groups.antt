@@ -3,25 +3,20 @@ use mathlib.Core.Path.{◌≡◌, refl, sym, ap, subst, ◌∙◌}
 use mathlib.Core.Bool.{Bool}
 use mathlib.Core.List.{List, [], ◌∷◌}
 use Prim.Native.Nat.{ℕ, zero, suc, ◌+◌, ◌*◌, ◌≤◌, ◌<◌}
-use native.Mathlib.Nat.{suc-mul}
 use native.Mathlib.Numerals.{add-one}
 use native.Mathlib.Omega.{arith}
 use borrow.Author.Tests.{eq-eqb, ne_eqb}
 use lib.Dec.{eqb}
-use lib.ListN.{get_or, set, replicate, length-replicate, get_or-replicate}
+use lib.ListN.{get_or, set}
 use Rattle.finite.specs.Tables.{Table}
-use Rattle.finite.proofs.Sums.{sum_below, sum_last, when_most}
+use Rattle.finite.proofs.Sums.{sum_below, sum_last}
 use Rattle.finite.proofs.Tables.{table_set}
 use Rattle.embedding.specs.Plates.{when}
 use Rattle.shapes.specs.Judge.{group_sum}
 
-pub group-sum : (n : ℕ) (key g : ℕ → ℕ) (k : ℕ) → group_sum n key g k ≡ sum_below n (λ i. when (eqb (key i) k) (g i))
-group-sum zero key g k = refl
-group-sum (suc n) key g k = omega (arith, group-sum n key g k, sum_last n (λ i. when (eqb (key i) k) (g i)))
-
-group_most : (n : ℕ) (key g : ℕ → ℕ) (k c : ℕ) → ((i : ℕ) → g i ≤ c) → group_sum n key g k ≤ n * c
-group_most zero key g k c h = omega arith
-group_most (suc n) key g k c h = omega (arith, group_most n key g k c h, when_most (eqb (key n) k) (g n), h n, suc-mul n c)
+pub group_sum_below : (n : ℕ) (key g : ℕ → ℕ) (k : ℕ) → group_sum n key g k ≡ sum_below n (λ i. when (eqb (key i) k) (g i))
+group_sum_below zero key g k = refl
+group_sum_below (suc n) key g k = omega (arith, group_sum_below n key g k, sum_last n (λ i. when (eqb (key i) k) (g i)))
 
 -- the sums by m keys of the first d of n numbers
 pub record Adding (m n : ℕ) (key g : ℕ → ℕ) (d : ℕ) (sums : List ℕ) : Type 0 where
@@ -32,15 +27,7 @@ pub record Adding (m n : ℕ) (key g : ℕ → ℕ) (d : ℕ) (sums : List ℕ) 
 abbrev pub Gives : ℕ → (ℕ → ℕ × ℕ → Type 0) → (ℕ → ℕ) → (ℕ → ℕ) → Type 0
 Gives n at key g = (d : ℕ) (r : ℕ × ℕ) → d < n → at d r → (r.0 ≡ key d) × (r.1 ≡ g d)
 
-pub adding_start : {m n : ℕ} {key g : ℕ → ℕ} → Adding m n key g 0 (replicate m 0)
-adding_start {m} {n} {key} {g} = record { so_far = record { size = length-replicate m 0; at = λ i l. get_or-replicate m i 0 0 l }; within = omega arith }
-
 -- each sum of d numbers of at most 512
-pub few_start : (m k : ℕ) → get_or (replicate m 0) k 0 ≤ 0 * 512
-few_start zero k = omega arith
-few_start (suc m) zero = omega arith
-few_start (suc m) (suc k) = few_start m k
-
 pub few_more : (sums : List ℕ) (d k w : ℕ) → ((i : ℕ) → get_or sums i 0 ≤ d * 512) → w ≤ 512 → (i : ℕ) → get_or (set sums k (get_or sums k 0 + w)) i 0 ≤ (d + 1) * 512
 few_more [] d k w h few i = omega (arith, h i)
 few_more (s ∷ sums) d zero w h few zero = omega (arith, h zero)
@@ -49,10 +36,6 @@ few_more (s ∷ sums) d (suc k) w h few zero = omega (arith, h zero)
 few_more (s ∷ sums) d (suc k) w h few (suc i) = few_more sums d k w (λ j. h (suc j)) few i
 
 module _ {m n : ℕ} {key g : ℕ → ℕ} {d : ℕ} {sums : List ℕ} (h : Adding m n key g d sums) where
-  -- each is small while there are few numbers
-  pub adding_few : (k : ℕ) → k < m → n ≤ 256 → ((i : ℕ) → g i ≤ 512) → get_or sums k 0 ≤ 131072
-  adding_few k l few most = omega (arith, h.so_far.at k l, group_most d key g k 512 most, h.within)
-
   pub adding_more : {k w : ℕ} → d < n → k ≡ key d → k < m → w ≡ get_or sums k 0 + g d → Adding m n key g (d + 1) (set sums k w)
   adding_more {k} {w} next e l q =
       record {

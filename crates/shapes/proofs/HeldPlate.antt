@@ -1,8 +1,8 @@
 -- What judging reads of a held plate: its posts, darts and faces are few, and its tables give the posts and faces of darts.
-use mathlib.Core.Path.{◌≡◌, refl, ap, ◌∙◌}
+use mathlib.Core.Path.{◌≡◌, refl, ◌∙◌}
 use mathlib.Core.Bool.{true}
 use mathlib.Core.List.{List}
-use Prim.Native.Nat.{ℕ, ◌%◌, ◌≤◌, ◌<◌}
+use Prim.Native.Nat.{ℕ, ◌≤◌, ◌<◌}
 use native.Mathlib.Decide.{dec_lt}
 use native.Mathlib.Omega.{arith}
 use borrow.Author.Tests.{lt-ltb}
@@ -16,13 +16,11 @@ use Rattle.embedding.specs.declared.Plate.{Plate as Held}
 use Rattle.embedding.proofs.Rotation.{Ordered, twin_dart, leaves_below}
 use Rattle.embedding.proofs.Faultless.{Faultless}
 use Rattle.embedding.proofs.Degrees.{darts_most, darts_few}
-use Rattle.shapes.specs.Judge.{Keys}
-use Rattle.shapes.specs.Counted.{Counted}
 use Rattle.shapes.proofs.Accepted.{faultless, ordered}
 use Rattle.shapes.proofs.Places.{index_below}
 
-all-below : (n : ℕ) (xs : List ℕ) → ((i : ℕ) → i < length xs → get_or xs i 0 < n) → all_below n xs ≡ true
-all-below n xs h = each_over (all_below n) (λ x. ltb x n) refl (λ x xs. refl) xs (λ i l. lt-ltb (get_or xs i 0) n (h i l))
+each_below : (n : ℕ) (xs : List ℕ) → ((i : ℕ) → i < length xs → get_or xs i 0 < n) → all_below n xs ≡ true
+each_below n xs h = each_over (all_below n) (λ x. ltb x n) refl (λ x xs. refl) xs (λ i l. lt-ltb (get_or xs i 0) n (h i l))
 
 module _ (q : Held) where
   abbrev p : Plate
@@ -49,15 +47,15 @@ module _ (q : Held) where
   pub faces_are : (d : ℕ) → d < darts (meant q) → get_or q.face d 0 ≡ face_number (meant q) d
   faces_are d l = q.stands.face_numbers.at d (omega (arith, few_darts, q.stands.dart_count)) ∙ up_below (darts p) (face_number p) d l
 
-  pub ends_keys : Keys 64 q.ends
-  ends_keys = record { long = q.stands.strip_ends.size; below = all-below 64 q.ends (λ i l. at i l (dec_lt i (darts p))) }
+  pub ends_below : all_below 64 q.ends ≡ true
+  ends_below = each_below 64 q.ends (λ i l. at i l (dec_lt i (darts p)))
     where
       at : (i : ℕ) → i < length q.ends → Dec (i < darts p) → get_or q.ends i 0 < 64
       at i l (yes k) = omega (arith, q.stands.strip_ends.at i (omega (arith, q.stands.strip_ends.size)), leaves_below p o i k, f.posts_most)
       at i l (no k) = omega (arith, q.stands.strip_ends.at i (omega (arith, q.stands.strip_ends.size)), get_or-eq_default p.ends 0 {n = i} (omega arith))
 
-  pub face_keys : Keys 66 q.face
-  face_keys = record { long = q.stands.face_numbers.size; below = all-below 66 q.face (λ i l. at i l (dec_lt i (darts p))) }
+  pub face_below : all_below 66 q.face ≡ true
+  face_below = each_below 66 q.face (λ i l. at i l (dec_lt i (darts p)))
     where
       at : (i : ℕ) → i < length q.face → Dec (i < darts p) → get_or q.face i 0 < 66
       at i l (yes k) = omega (arith, faces_are i k, index_below p o i k, q.stands.face_count, few_faces)
@@ -66,12 +64,5 @@ module _ (q : Held) where
   pub outer_below : q.outer < darts (meant q)
   outer_below = omega (arith, q.stands.outer_dart, f.outer_dart)
 
-  pub outer_key : q.outer < length q.face
-  outer_key = omega (arith, outer_below, few_darts, q.stands.dart_count, q.stands.face_numbers.size)
-
   pub few_angles : (al : List ℕ) → length al ≡ q.darts → length al ≤ 256
   few_angles al long = omega (arith, few_darts)
-
-  pub counts_are : (al rs : List ℕ) → length al ≡ q.darts → length rs ≡ q.darts → Counted al rs
-  counts_are al rs al_long rs-long =
-      record { same_length = omega arith; even_length = ap (λ (k : ℕ). k % 2) (al_long ∙ q.stands.dart_count) ∙ q.accepted.even_darts; most = few_angles al al_long }

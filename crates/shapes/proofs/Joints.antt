@@ -12,7 +12,7 @@ use Rattle.embedding.specs.Plates.{when, Plate, darts, degree}
 use Rattle.shapes.specs.Shapes.{Shape, meets, bends, cornered, comes_first, straights_from, is_cornered, cornered_from}
 use Rattle.shapes.specs.Rates.{unrated, strip_bends, all_within, BestWithin}
 use Rattle.shapes.specs.Joints.{plain_first, PlainBest, NoneStraighter, Straightest, StraightPosts}
-use Rattle.shapes.proofs.RatedOrder.{Then, then_test, test_then, then-test, then_map, by_counts}
+use Rattle.shapes.proofs.RatedOrder.{Then, then_test, then_from_test, test_from_then, then_map, by_counts}
 
 -- the two orders, as facts
 module _ (p : Plate) (s u : Shape) where
@@ -20,16 +20,16 @@ module _ (p : Plate) (s u : Shape) where
   counts = by_counts p unrated s u
 
   first_then : comes_first p s u ≡ true → Then (bends s) (bends u) (Then (cornered p s) (cornered p u) (counts ≡ true))
-  first_then e = then_map (test_then (cornered p s) (cornered p u) counts) (test_then (bends s) (bends u) (then_test (cornered p s) (cornered p u) counts) e)
+  first_then e = then_map (then_from_test (cornered p s) (cornered p u) counts) (then_from_test (bends s) (bends u) (then_test (cornered p s) (cornered p u) counts) e)
 
   then_first : Then (bends s) (bends u) (Then (cornered p s) (cornered p u) (counts ≡ true)) → comes_first p s u ≡ true
-  then_first t = then-test (bends s) (bends u) (then_test (cornered p s) (cornered p u) counts) (then_map (then-test (cornered p s) (cornered p u) counts) t)
+  then_first t = test_from_then (bends s) (bends u) (then_test (cornered p s) (cornered p u) counts) (then_map (test_from_then (cornered p s) (cornered p u) counts) t)
 
   plain_then : plain_first s u ≡ true → Then (bends s) (bends u) (counts ≡ true)
-  plain_then = test_then (bends s) (bends u) counts
+  plain_then = then_from_test (bends s) (bends u) counts
 
   then_plain : Then (bends s) (bends u) (counts ≡ true) → plain_first s u ≡ true
-  then_plain = then-test (bends s) (bends u) counts
+  then_plain = test_from_then (bends s) (bends u) counts
 
 module _ (p : Plate) (ls : List ℕ) (s : Shape) where
   to_parts : BestWithin p ls s → Straightest p ls s

@@ -26,7 +26,7 @@ use Rattle.embedding.proofs.Answers.{faces_fit}
 use Rattle.shapes.specs.Rates.{rates}
 use Rattle.shapes.specs.NetworkOf.{by_arc, face_node, is_outer, face_supply, face_demand, is_joint, bend_most, bend_cost, network_of, rated_of}
 use Rattle.shapes.specs.Entries.{node_at, joint_at, supply_at, demand_at, bend_arc, corner_arc, node, no_arc, no_node, Begun, CornersLaid}
-use Rattle.shapes.proofs.Tables.{get_d_map_in}
+use Rattle.shapes.proofs.Tables.{map_at}
 use Rattle.shapes.proofs.Places.{index_below, index_test, face_below_darts}
 use Rattle.shapes.proofs.Nodes.{eqb_shift}
 use Rattle.shapes.proofs.Accepted.{faultless, ordered}
@@ -86,9 +86,9 @@ module _ (q : Held) where
       ∙ ap (λ (n : ℕ). eqb n 2) (q.stands.post_degrees.at (ends_at p d) (omega (arith, f.posts_most)) ∙ up_below p.posts (degree p) (ends_at p d) k)
 
   -- one number of each arc
-  by-arc : (field : Arc → ℕ) → field no_arc ≡ 0 → (f g h : ℕ → ℕ) → {f₀ g₀ h₀ : ℕ → Arc} {ys xs : List Arc} → Begun no_arc (q.darts + (q.darts + q.darts)) f₀ q.darts ys → CornersLaid q.darts g₀ h₀ q.darts ys xs
+  field_laid : (field : Arc → ℕ) → field no_arc ≡ 0 → (f g h : ℕ → ℕ) → {f₀ g₀ h₀ : ℕ → Arc} {ys xs : List Arc} → Begun no_arc (q.darts + (q.darts + q.darts)) f₀ q.darts ys → CornersLaid q.darts g₀ h₀ q.darts ys xs
       → ((d : ℕ) → d < q.darts → field (f₀ d) ≡ f d) → ((d : ℕ) → d < q.darts → field (g₀ d) ≡ g d) → ((d : ℕ) → d < q.darts → field (h₀ d) ≡ h d) → map field xs ≡ by_arc (darts p) f g h
-  by-arc field none f g h b c bend low high = arcs_laid field none b c f g h bend low high ∙ ap (λ (n : ℕ). by_arc n f g h) q.stands.dart_count
+  field_laid field none f g h b c bend low high = arcs_laid field none b c f g h bend low high ∙ ap (λ (n : ℕ). by_arc n f g h) q.stands.dart_count
 
   outer_test : (i : ℕ) → i < length (faces p) → eqb (q.posts + i) outer ≡ is_outer p (get_or (faces p) i 0)
   outer_test i l =
@@ -105,7 +105,7 @@ module _ (q : Held) where
       (λ v l. ap (λ (b : Bool). pick b 0 4) (ne_eqb v outer (not_outer v l)) ∙ sym (get_or-replicate p.posts v 4 0 (omega (arith, q.stands.same_posts))))
       (λ i l.
       let k : i < length (faces p) = omega (arith, q.stands.face_count) in
-      ap (λ (b : Bool). pick b 0 4) (outer_test i k) ∙ sym (get_d_map_in (face_supply p) (faces p) i k))
+      ap (λ (b : Bool). pick b 0 4) (outer_test i k) ∙ sym (map_at (face_supply p) (faces p) i k))
 
   face-demand : (i : ℕ) → i < length (faces p) → 2 * get_or q.sizes i 0 + pick (eqb (q.posts + i) outer) 4 0 ≡ face_demand p (get_or (faces p) i 0)
   face-demand i l = omega (arith, size_at i l, ap {B = ℕ} (λ (b : Bool). pick b 4 0) (outer_test i l))
@@ -120,19 +120,19 @@ module _ (q : Held) where
       let e : q.posts + i - q.posts ≡ i = omega arith in
       ap (λ (b : Bool). pick b 0 (2 * get_or q.sizes (q.posts + i - q.posts) 0 + pick (eqb (q.posts + i) outer) 4 0)) (le-ltb (q.posts + i) q.posts (omega arith))
       ∙ ap (λ (j : ℕ). 2 * get_or q.sizes j 0 + pick (eqb (q.posts + i) outer) 4 0) e
-      ∙ face-demand i k ∙ sym (get_d_map_in (face_demand p) (faces p) i k))
+      ∙ face-demand i k ∙ sym (map_at (face_demand p) (faces p) i k))
 
   pub network_laid : (limits prices : List ℕ) {ys arcs : List Arc} {nodes : List Node}
       → Begun no_arc (q.darts + (q.darts + q.darts)) (bend_arc q (rates limits prices)) q.darts ys → CornersLaid q.darts (corner_arc q true) (corner_arc q false) q.darts ys arcs
       → Begun no_node (q.posts + q.faces) (node q) (q.posts + q.faces) nodes
       → network_from arcs nodes ≡ rated_of (meant q) (rates limits prices)
   network_laid limits prices {nodes = nodes} b c n = λ i. record {
-    tails = by-arc (λ arc. arc.tail) refl (λ d. face_node p d) (λ d. ends_at p d) (λ d. ends_at p d) b c node_is ends_are ends_are i;
-    heads = by-arc (λ arc. arc.head) refl (λ d. face_node p (twin d)) (λ d. face_node p d) (λ d. face_node p d) b c (λ d l. node_is (twin d) (twin_below d l)) node_is node_is i;
-    lowers = by-arc (λ arc. arc.lower) refl (λ d. 0) (λ d. 1) (λ d. 0) b c (λ d l. refl) (λ d l. refl) (λ d l. refl) i;
-    uppers = by-arc (λ arc. arc.upper) refl (λ d. bend_most limits d) (λ d. pick (is_joint p d) 2 4) (λ d. pick (is_joint p d) 1 0) b c (λ d l. refl)
+    tails = field_laid (λ arc. arc.tail) refl (λ d. face_node p d) (λ d. ends_at p d) (λ d. ends_at p d) b c node_is ends_are ends_are i;
+    heads = field_laid (λ arc. arc.head) refl (λ d. face_node p (twin d)) (λ d. face_node p d) (λ d. face_node p d) b c (λ d l. node_is (twin d) (twin_below d l)) node_is node_is i;
+    lowers = field_laid (λ arc. arc.lower) refl (λ d. 0) (λ d. 1) (λ d. 0) b c (λ d l. refl) (λ d l. refl) (λ d l. refl) i;
+    uppers = field_laid (λ arc. arc.upper) refl (λ d. bend_most limits d) (λ d. pick (is_joint p d) 2 4) (λ d. pick (is_joint p d) 1 0) b c (λ d l. refl)
         (λ d l. ap (λ (b : Bool). pick b 2 4) (joint_is d l)) (λ d l. ap (λ (b : Bool). pick b 1 0) (joint_is d l)) i;
-    costs = by-arc (λ arc. arc.cost) refl (λ d. bend_cost prices d) (λ d. 0) (λ d. 65536) b c (λ d l. refl) (λ d l. refl) (λ d l. refl) i;
+    costs = field_laid (λ arc. arc.cost) refl (λ d. bend_cost prices d) (λ d. 0) (λ d. 65536) b c (λ d l. refl) (λ d l. refl) (λ d l. refl) i;
     supplies = supplies_are (supplies_of nodes) (nodes_laid (λ node. node.supply) refl n) i;
     demands = demands_are (demands_of nodes) (nodes_laid (λ node. node.demand) refl n) i;
   }

@@ -47,8 +47,7 @@ pub mod Demands
 pub mod Turns
 pub mod Tried
 pub mod Groups
-pub mod Chains
-pub mod Upward
+pub mod ListTests
 pub mod StripLoops
 pub mod Sides
 pub mod Verdict

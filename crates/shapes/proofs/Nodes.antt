@@ -16,7 +16,7 @@ use Rattle.embedding.proofs.Rotation.{Ordered, twin_twin}
 use Rattle.embedding.proofs.Totals.{end_sum, twins_sum, ends_at_below}
 use Rattle.shapes.specs.NetworkOf.{table, face_node, face_supply, face_demand, network_of}
 use Rattle.embedding.specs.Read.{face_number}
-use Rattle.shapes.proofs.Tables.{length_table, get_d_first, get_d_second, get_d_map_in, units_append, units_table}
+use Rattle.shapes.proofs.Tables.{length_table, first_at, second_at, map_at, units_append, units_table}
 use Rattle.shapes.proofs.Places.{index_sum}
 
 pub eqb_shift : (n a b : ℕ) → eqb (n + a) (n + b) ≡ eqb a b
@@ -35,17 +35,17 @@ module _ (p : Plate) where
 
   module _ (v : ℕ) (l : v < p.posts) where
     pub post_supply : supply (network_of p) v ≡ 4
-    post_supply = get_d_first (replicate p.posts 4) (map (face_supply p) (faces p)) p.posts (length-replicate p.posts 4) v l ∙ get_or-replicate p.posts v 4 0 l
+    post_supply = first_at (replicate p.posts 4) (map (face_supply p) (faces p)) p.posts (length-replicate p.posts 4) v l ∙ get_or-replicate p.posts v 4 0 l
 
     pub post_demand : demand (network_of p) v ≡ 0
-    post_demand = get_d_first (replicate p.posts 0) (map (face_demand p) (faces p)) p.posts (length-replicate p.posts 0) v l ∙ get_or-replicate p.posts v 0 0 l
+    post_demand = first_at (replicate p.posts 0) (map (face_demand p) (faces p)) p.posts (length-replicate p.posts 0) v l ∙ get_or-replicate p.posts v 0 0 l
 
   module _ (i : ℕ) (l : i < length (faces p)) where
     pub face-supply : supply (network_of p) (p.posts + i) ≡ face_supply p (get_or (faces p) i 0)
-    face-supply = get_d_second (replicate p.posts 4) (map (face_supply p) (faces p)) p.posts (length-replicate p.posts 4) i ∙ get_d_map_in (face_supply p) (faces p) i l
+    face-supply = second_at (replicate p.posts 4) (map (face_supply p) (faces p)) p.posts (length-replicate p.posts 4) i ∙ map_at (face_supply p) (faces p) i l
 
     pub face-demand : demand (network_of p) (p.posts + i) ≡ face_demand p (get_or (faces p) i 0)
-    face-demand = get_d_second (replicate p.posts 0) (map (face_demand p) (faces p)) p.posts (length-replicate p.posts 0) i ∙ get_d_map_in (face_demand p) (faces p) i l
+    face-demand = second_at (replicate p.posts 0) (map (face_demand p) (faces p)) p.posts (length-replicate p.posts 0) i ∙ map_at (face_demand p) (faces p) i l
 
 -- units on the darts and on the corners
 module _ (p : Plate) (o : Ordered p) (xs cs : List ℕ) (xs_long : length xs ≡ darts p) (cs-long : length cs ≡ darts p) where

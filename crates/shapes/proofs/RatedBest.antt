@@ -37,8 +37,8 @@ module _ (p : Plate) (f : Faultless p) (o : Ordered p) (r : Rates) (fair : Fair 
       let us = units_of p r o y g in
       (shape_of p al us, flow_shape p o al us e, counts_keep p o r al us e (counts_within p r o y g))
 
-  pub no-shape : NoFlow (rated_of p r) → (u : Shape) → meets p u ≡ true → keeps r u ≡ true → ⊥
-  no-shape none u m k = cut_rules_out (rated_of p r) (rated_sound p r f o fair) none.set none.cut (rights_of u.words ++ on_arcs p r o u.angles) (shape_rated u m k)
+  pub none_keeps : NoFlow (rated_of p r) → (u : Shape) → meets p u ≡ true → keeps r u ≡ true → ⊥
+  none_keeps none u m k = cut_rules_out (rated_of p r) (rated_sound p r f o fair) none.set none.cut (rights_of u.words ++ on_arcs p r o u.angles) (shape_rated u m k)
 
   -- the least flow read as right bends and angles
   module _ (x : List ℕ) (least : Least (rated_of p r) x) where

@@ -89,7 +89,7 @@ module _ (p : Plate) (r : Rates) (o : Ordered p) where
         })
       where
         parts : (d : ℕ) → d < darts p → (1 ≤ low (is_joint p d) (get_or cs d 0)) × (low (is_joint p d) (get_or cs d 0) ≤ pick (is_joint p d) 2 4) × (high (is_joint p d) (get_or cs d 0) ≤ pick (is_joint p d) 1 0)
-        parts d l = corner_parts (is_joint p d) (get_or cs d 0) (facts.corner-most d l).0 (facts.corner-most d l).1 (joint_most p o cs xs facts d l)
+        parts d l = corner_parts (is_joint p d) (get_or cs d 0) (facts.corner_range d l).0 (facts.corner_range d l).1 (joint_most p o cs xs facts d l)
 
   -- a flow, its strips straightened and each corner put together
   module _ (y : List ℕ) (f : Flow (rated_of p r) y) where

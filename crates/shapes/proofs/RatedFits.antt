@@ -1,5 +1,4 @@
--- A best shape's right bends fit a byte each and their total two, and no strip bends both ways, whatever the prices: taking off what goes round a cycle, or along a strip both ways, leaves a flow,
--- and the best has nothing to take off.
+-- A best shape's right bends fit a byte each and their total two, whatever the prices: taking off what goes round a cycle leaves a flow, and the best has nothing to take off.
 use mathlib.Core.Path.{◌≡◌, ap}
 use mathlib.Core.Bool.{true}
 use mathlib.Core.List.{List, ◌++◌}
@@ -19,13 +18,12 @@ use Rattle.shapes.specs.Shapes.{Shape, total, rights_of, shape_of}
 use Rattle.shapes.specs.Claims.{is_flow}
 use Rattle.shapes.specs.Rates.{Rates, Fair, BestBy}
 use Rattle.shapes.specs.NetworkOf.{network_of}
-use Rattle.shapes.proofs.Tables.{get_d_first, two_first}
+use Rattle.shapes.proofs.Tables.{first_at, two_first}
 use Rattle.shapes.proofs.Nodes.{arcs_are}
 use Rattle.shapes.proofs.Flows.{is_flow_flow, parted_flow}
 use Rattle.shapes.proofs.SoundNetwork.{network_sound}
 use Rattle.shapes.proofs.Tamassia.{shape_flow, flow_shape}
 use Rattle.shapes.proofs.Bytes.{unit_most, total_fits}
-use Rattle.shapes.proofs.Straight.{both, straightened, less, straight_flow}
 use Rattle.shapes.proofs.Strips.{price_at, Within, StripWithin}
 use Rattle.shapes.proofs.RatedShapes.{rights_count, shape_price, shape_within, counts_price, counts_keep}
 
@@ -84,7 +82,7 @@ module _ (p : Plate) (f : Faultless p) (o : Ordered p) (r : Rates) (fair : Fair 
   left_flow = parted_flow p o trimmed.flow trimmed.is-flow
 
   no_more : (d : ℕ) → d < darts p → get_or ys d 0 ≤ get_or xs d 0
-  no_more d l = omega (arith, get_or-take (darts p) trimmed.flow d 0 l, trimmed.below d, get_d_first xs cs (darts p) xs_long d l)
+  no_more d l = omega (arith, get_or-take (darts p) trimmed.flow d 0 l, trimmed.below d, first_at xs cs (darts p) xs_long d l)
 
   nothing_taken : (d : ℕ) → d < darts p → get_or ys d 0 ≡ get_or xs d 0
   nothing_taken = as_many ds ys left_flow no_more
@@ -98,8 +96,3 @@ module _ (p : Plate) (f : Faultless p) (o : Ordered p) (r : Rates) (fair : Fair 
 
   pub best_total : total (rights_of s.words) < 65536
   best_total = total_fits p f o xs xs_long best_near
-
-  pub best_one_way : (d : ℕ) → d < darts p → both p o xs d ≡ 0
-  best_one_way d l =
-      let straight = straightened p o xs in
-      omega (arith, less p o xs d l, as_many cs straight (straight_flow p o xs cs (shape_flow p o s best.meets_all)) (λ e m. omega (arith, less p o xs e m)) d l)

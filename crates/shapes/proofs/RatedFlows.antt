@@ -17,12 +17,12 @@ use Rattle.shapes.specs.Shapes.{total}
 use Rattle.shapes.specs.Claims.{is_flow}
 use Rattle.shapes.specs.Rates.{Rates, pair_sums}
 use Rattle.shapes.specs.NetworkOf.{face_node, is_joint, bend_most, bend_cost, network_of, rated_of}
-use Rattle.shapes.proofs.Tables.{get_d_first, get_d_second, two_first, two_second, by_parts}
+use Rattle.shapes.proofs.Tables.{first_at, second_at, two_first, two_second, by_parts}
 use Rattle.shapes.proofs.Nodes.{arcs_are}
 use Rattle.shapes.proofs.Flows.{flow_is_flow, is_flow_flow}
 use Rattle.shapes.proofs.Strips.{price_at}
 use Rattle.shapes.proofs.Pairs.{sums_at, sums_long}
-use Rattle.shapes.proofs.Arcs.{by-arcs, arcs_long, at_bend, at_low, at_high, units_one, cost_arcs}
+use Rattle.shapes.proofs.Arcs.{arc_cases, arcs_long, at_bend, at_low, at_high, units_one, cost_arcs}
 
 -- the bounds of the arcs
 pub record Fits (p : Plate) (r : Rates) (xs zs : List ℕ) : Type 0 where
@@ -39,8 +39,8 @@ small_uppers : (b : Bool) → (pick b 2 4 < 65535) × (pick b 1 0 < 65535)
 small_uppers true = (omega arith, omega arith)
 small_uppers false = (omega arith, omega arith)
 
-bend-cost : (q x : ℕ) → (q * 4294967296 + 1) * x ≡ 4294967296 * (q * x) + x
-bend-cost q x = omega (arith, add-mul (q * 4294967296) 1 x, ap (λ (k : ℕ). k * x) (mul_comm q 4294967296), mul_assoc 4294967296 q x)
+cost_parts : (q x : ℕ) → (q * 4294967296 + 1) * x ≡ 4294967296 * (q * x) + x
+cost_parts q x = omega (arith, add-mul (q * 4294967296) 1 x, ap (λ (k : ℕ). k * x) (mul_comm q 4294967296), mul_assoc 4294967296 q x)
 
 module _ (p : Plate) (r : Rates) where
   pub rated_arcs : arcs (rated_of p r) ≡ darts p + (darts p + darts p)
@@ -54,13 +54,13 @@ module _ (p : Plate) (r : Rates) where
     high d = get_or zs (suc (d + d)) 0
 
     x_bend : (d : ℕ) → d < darts p → get_or (xs ++ zs) d 0 ≡ get_or xs d 0
-    x_bend d l = get_d_first xs zs (darts p) xs_long d l
+    x_bend d l = first_at xs zs (darts p) xs_long d l
 
     x_low : (d : ℕ) → get_or (xs ++ zs) (darts p + (d + d)) 0 ≡ low d
-    x_low d = get_d_second xs zs (darts p) xs_long (d + d)
+    x_low d = second_at xs zs (darts p) xs_long (d + d)
 
     x_high : (d : ℕ) → get_or (xs ++ zs) (darts p + suc (d + d)) 0 ≡ high d
-    x_high d = get_d_second xs zs (darts p) xs_long (suc (d + d))
+    x_high d = second_at xs zs (darts p) xs_long (suc (d + d))
 
     bound : (u x : ℕ) → u < 65535 → (u ≡ unbounded) ⊎ (x ≤ u) → x ≤ u
     bound u x l (inl e) = absurd (omega arith)
@@ -87,7 +87,7 @@ module _ (p : Plate) (r : Rates) where
     heads_one v = units_one (darts p) (λ d. face_node p (twin d)) (λ d. face_node p d) xs zs v xs_long zs_long
 
     cs_at : (d : ℕ) → d < darts p → get_or (xs ++ pair_sums zs) (darts p + d) 0 ≡ low d + high d
-    cs_at d l = get_d_second xs (pair_sums zs) (darts p) xs_long d ∙ sums_at zs d
+    cs_at d l = second_at xs (pair_sums zs) (darts p) xs_long d ∙ sums_at zs d
 
     pub flow_plain : Flow (rated_of p r) (xs ++ zs) → is_flow p (pair_sums zs) xs ≡ true
     flow_plain f =
@@ -108,11 +108,11 @@ module _ (p : Plate) (r : Rates) where
         let f = is_flow_flow p o xs (pair_sums zs) e in
         record {
           long = omega (arith, rated_arcs, length-append xs zs);
-          above = λ a l. by-arcs (λ a. lower (rated_of p r) a ≤ get_or (xs ++ zs) a 0) (darts p)
+          above = λ a l. arc_cases (λ a. lower (rated_of p r) a ≤ get_or (xs ++ zs) a 0) (darts p)
               (λ d k. omega (arith, at_bend (darts p) (λ d. 0) (λ d. 1) (λ d. 0) d k))
               (λ d k. omega (arith, at_low (darts p) (λ d. 0) (λ d. 1) (λ d. 0) d k, x_low d, b.low_least d k))
               (λ d k. omega (arith, at_high (darts p) (λ d. 0) (λ d. 1) (λ d. 0) d k)) a (omega (arith, rated_arcs));
-          below = λ a l. by-arcs (λ a. (upper (rated_of p r) a ≡ unbounded) ⊎ (get_or (xs ++ zs) a 0 ≤ upper (rated_of p r) a)) (darts p)
+          below = λ a l. arc_cases (λ a. (upper (rated_of p r) a ≡ unbounded) ⊎ (get_or (xs ++ zs) a 0 ≤ upper (rated_of p r) a)) (darts p)
               (λ d k.
               subst (λ (u : ℕ). (u ≡ unbounded) ⊎ (get_or (xs ++ zs) d 0 ≤ u)) (sym (at_bend (darts p) (λ d. bend_most r.limits d) (λ d. pick (is_joint p d) 2 4) (λ d. pick (is_joint p d) 1 0) d k))
               (subst (λ (x : ℕ). (bend_most r.limits d ≡ unbounded) ⊎ (x ≤ bend_most r.limits d)) (sym (x_bend d k)) (b.bend-most d k)))
@@ -133,7 +133,7 @@ module _ (p : Plate) (r : Rates) where
         omega (
           arith,
           cost_arcs (darts p) (λ d. bend_cost r.prices d) 65536 xs zs xs_long zs_long,
-          sum_cong (darts p) (λ d. bend_cost r.prices d * get_or xs d 0) (λ d. 4294967296 * (price_at r.prices d * get_or xs d 0) + get_or xs d 0) (λ d l. bend-cost (price_at r.prices d) (get_or xs d 0)),
+          sum_cong (darts p) (λ d. bend_cost r.prices d * get_or xs d 0) (λ d. 4294967296 * (price_at r.prices d * get_or xs d 0) + get_or xs d 0) (λ d l. cost_parts (price_at r.prices d) (get_or xs d 0)),
           sum_add (darts p) (λ d. 4294967296 * (price_at r.prices d * get_or xs d 0)) (λ d. get_or xs d 0),
           sum_times 4294967296 (darts p) (λ d. price_at r.prices d * get_or xs d 0),
           total_sum xs,

@@ -19,12 +19,12 @@ Then x y P = (x < y) ⊎ ((x ≡ y) × P)
 abbrev pub then_test : ℕ → ℕ → Bool → Bool
 then_test x y b = ltb x y || (eqb x y && b)
 
-pub test_then : (x y : ℕ) (b : Bool) → then_test x y b ≡ true → Then x y (b ≡ true)
-test_then x y b e = ⊎_elim (λ l. inl (ltb-true x y l)) (λ l. inr (eqb-true x y (and_left (eqb x y) b l), and_right (eqb x y) b l)) (or_cases (ltb x y) (eqb x y && b) e)
+pub then_from_test : (x y : ℕ) (b : Bool) → then_test x y b ≡ true → Then x y (b ≡ true)
+then_from_test x y b e = ⊎_elim (λ l. inl (ltb-true x y l)) (λ l. inr (eqb-true x y (and_left (eqb x y) b l), and_right (eqb x y) b l)) (or_cases (ltb x y) (eqb x y && b) e)
 
-pub then-test : (x y : ℕ) (b : Bool) → Then x y (b ≡ true) → then_test x y b ≡ true
-then-test x y b (inl l) = or_left (ltb x y) (eqb x y && b) (lt-ltb x y l)
-then-test x y b (inr (e, h)) = or_right (ltb x y) (eqb x y && b) (and_both (eqb x y) b (eq-eqb x y e) h)
+pub test_from_then : (x y : ℕ) (b : Bool) → Then x y (b ≡ true) → then_test x y b ≡ true
+test_from_then x y b (inl l) = or_left (ltb x y) (eqb x y && b) (lt-ltb x y l)
+test_from_then x y b (inr (e, h)) = or_right (ltb x y) (eqb x y && b) (and_both (eqb x y) b (eq-eqb x y e) h)
 
 pub then_once : {x y : ℕ} {P Q : Type 0} → (P → Q → ⊥) → Then x y P → Then y x Q → ⊥
 then_once n (inl l) (inl k) = omega arith
@@ -45,13 +45,13 @@ module _ (p : Plate) (r : Rates) (s u : Shape) where
 
   pub first_facts : comes_first_by p r s u ≡ true → First
   first_facts e =
-      then_map (λ e. then_map (test_then (bends s) (bends u) by_counts) (test_then (cornered p s) (cornered p u) (then_test (bends s) (bends u) by_counts) e))
-      (test_then (price r s) (price r u) (then_test (cornered p s) (cornered p u) (then_test (bends s) (bends u) by_counts)) e)
+      then_map (λ e. then_map (then_from_test (bends s) (bends u) by_counts) (then_from_test (cornered p s) (cornered p u) (then_test (bends s) (bends u) by_counts) e))
+      (then_from_test (price r s) (price r u) (then_test (cornered p s) (cornered p u) (then_test (bends s) (bends u) by_counts)) e)
 
   pub facts_first : First → comes_first_by p r s u ≡ true
   facts_first f =
-      then-test (price r s) (price r u) (then_test (cornered p s) (cornered p u) (then_test (bends s) (bends u) by_counts))
-      (then_map (λ f. then-test (cornered p s) (cornered p u) (then_test (bends s) (bends u) by_counts) (then_map (then-test (bends s) (bends u) by_counts) f)) f)
+      test_from_then (price r s) (price r u) (then_test (cornered p s) (cornered p u) (then_test (bends s) (bends u) by_counts))
+      (then_map (λ f. test_from_then (cornered p s) (cornered p u) (then_test (bends s) (bends u) by_counts) (then_map (test_from_then (bends s) (bends u) by_counts) f)) f)
 
 pub first_once : (p : Plate) (r : Rates) (s u : Shape) → comes_first_by p r s u ≡ true → comes_first_by p r u s ≡ true → ⊥
 first_once p r s u a b =

@@ -14,7 +14,7 @@ use Rattle.shapes.specs.Claims.{is_flow}
 use Rattle.shapes.specs.Rates.{Rates, Fair, pair_sums, all_within, priced_sum, keeps, price}
 use Rattle.shapes.proofs.FlowFacts.{is_flow_parts}
 use Rattle.shapes.proofs.Tamassia.{two_to_a_strip, shape_flow, flow_rights}
-use Rattle.shapes.proofs.Strips.{price_at, priced-sum, StripWithin, within_darts, darts_within}
+use Rattle.shapes.proofs.Strips.{price_at, priced_by_dart, StripWithin, within_darts, darts_within}
 
 module _ (p : Plate) (o : Ordered p) (r : Rates) where
   -- the priced sum of right bends by dart
@@ -23,7 +23,7 @@ module _ (p : Plate) (o : Ordered p) (r : Rates) where
 
   pub priced_is : (xs : List ℕ) → length xs ≡ darts p → priced_sum r.prices (pair_sums xs) ≡ priced_of xs
   priced_is xs long =
-      priced-sum r.prices xs (ap (λ (k : ℕ). k % 2) long ∙ o.even) ∙ ap (λ (k : ℕ). sum_below k (λ d. price_at r.prices d * get_or xs d 0)) long
+      priced_by_dart r.prices xs (ap (λ (k : ℕ). k % 2) long ∙ o.even) ∙ ap (λ (k : ℕ). sum_below k (λ d. price_at r.prices d * get_or xs d 0)) long
 
   module _ (s : Shape) (m : meets p s ≡ true) where
     abbrev xs : List ℕ

@@ -27,7 +27,7 @@ use Rattle.shapes.proofs.OneWord.{words_fixed}
 use Rattle.shapes.proofs.Order.{smaller_parts, ahead}
 use Rattle.shapes.proofs.Corners.{cornered_most}
 use Rattle.shapes.proofs.Strips.{price_at, within_darts, darts_within}
-use Rattle.shapes.proofs.RatedOrder.{Then, then_test, test_then, then_map, by_counts, facts_first}
+use Rattle.shapes.proofs.RatedOrder.{Then, then_test, then_from_test, then_map, by_counts, facts_first}
 use Rattle.shapes.proofs.RatedShapes.{priced_is, rights_count}
 use Rattle.shapes.proofs.RatedFits.{fewer_within}
 use Rattle.shapes.proofs.FirstList.{First, Boxed, first_list}
@@ -131,7 +131,7 @@ module _ (p : Plate) (r : Rates) (most : ℕ) where
       at_most i l =
           by_parts (λ i. get_or x i 0 < most + (p.posts + 5)) (darts p) (darts p)
           (λ i k. omega (arith, get_or-take (darts p) x i 0 k, total_has (units p r x) i, few_bends))
-          (λ i k. omega (arith, get_or-drop (darts p) x i 0, (facts.corner-most i k).1)) i (omega (arith, key_long))
+          (λ i k. omega (arith, get_or-drop (darts p) x i 0, (facts.corner_range i k).1)) i (omega (arith, key_long))
 
       key_below : all_below (most + (p.posts + 5)) (a ∷ (b ∷ (c ∷ x))) ≡ true
       key_below =
@@ -189,9 +189,9 @@ module _ (p : Plate) (o : Ordered p) (r : Rates) (most a b c : ℕ) (x : List �
         go (inl q) =
             inr (ap (λ (z : List ℕ). get_or z 0 0) (sym q), inr (ap (λ (z : List ℕ). get_or z 1 0) (sym q), inr (ap (λ (z : List ℕ). get_or z 2 0) (sym q), inl (ap (λ (z : List ℕ). drop 3 z) q))))
         go (inr q) =
-            then_map (λ q. then_map (λ q. then_map (λ q. inr q) (test_then c (total ys) (smaller x (ys ++ al)) q))
-            (test_then b (cornered_from p.posts 0 p al) (then_test c (total ys) (smaller x (ys ++ al))) q))
-            (test_then a (priced_sum r.prices (pair_sums ys)) (then_test b (cornered_from p.posts 0 p al) (then_test c (total ys) (smaller x (ys ++ al)))) q)
+            then_map (λ q. then_map (λ q. then_map (λ q. inr q) (then_from_test c (total ys) (smaller x (ys ++ al)) q))
+            (then_from_test b (cornered_from p.posts 0 p al) (then_test c (total ys) (smaller x (ys ++ al))) q))
+            (then_from_test a (priced_sum r.prices (pair_sums ys)) (then_test b (cornered_from p.posts 0 p al) (then_test c (total ys) (smaller x (ys ++ al)))) q)
 
   price_is : price r s ≡ a
   price_is = ap (λ (z : List ℕ). priced_sum r.prices (pair_sums z)) rights ∙ sym k.priced

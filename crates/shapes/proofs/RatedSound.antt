@@ -21,7 +21,7 @@ use Rattle.shapes.proofs.Places.{index_below}
 use Rattle.shapes.proofs.Nodes.{nodes_are}
 use Rattle.shapes.proofs.SoundNetwork.{network_sound}
 use Rattle.shapes.proofs.Pairs.{length_pairs, sums_pairs, sums_total}
-use Rattle.shapes.proofs.Arcs.{by-arcs, arcs_long, at_bend, at_low, at_high, units_one, table_same}
+use Rattle.shapes.proofs.Arcs.{arc_cases, arcs_long, at_bend, at_low, at_high, units_one, table_same}
 use Rattle.shapes.proofs.RatedFlows.{rated_arcs}
 
 joint_uppers : (b : Bool) → 1 ≤ pick b 2 4
@@ -43,11 +43,11 @@ module _ (p : Plate) (r : Rates) where
       units_one (darts p) f g none firsts v (length_table (darts p) (λ d. 0)) (length_pairs (darts p) (λ d. 1) (λ d. 0))
       ∙ ap (λ (xs : List ℕ). units_at (table (darts p) f ++ table (darts p) g) xs v) lowers_one
 
-  excess-at : (v : ℕ) → excess_at (rated_of p r) v ≡ excess_at (network_of p) v
-  excess-at v = omega (arith, least_one (λ d. face_node p d) (λ d. ends_at p d) v, least_one (λ d. face_node p (twin d)) (λ d. face_node p d) v)
+  at_same : (v : ℕ) → excess_at (rated_of p r) v ≡ excess_at (network_of p) v
+  at_same v = omega (arith, least_one (λ d. face_node p d) (λ d. ends_at p d) v, least_one (λ d. face_node p (twin d)) (λ d. face_node p d) v)
 
   pub excess_same : excess (rated_of p r) ≡ excess (network_of p)
-  excess_same = excess_sum (rated_of p r) ∙ sum_cong (nodes (rated_of p r)) (excess_at (rated_of p r)) (excess_at (network_of p)) (λ v l. excess-at v) ∙ sym (excess_sum (network_of p))
+  excess_same = excess_sum (rated_of p r) ∙ sum_cong (nodes (rated_of p r)) (excess_at (rated_of p r)) (excess_at (network_of p)) (λ v l. at_same v) ∙ sym (excess_sum (network_of p))
 
   lowers_total : total (rated_of p r).lowers ≡ total (network_of p).lowers
   lowers_total = omega (arith, total_append none firsts, sums_total firsts, total_append none (pair_sums firsts), ap total lowers_one)
@@ -71,19 +71,19 @@ module _ (p : Plate) (r : Rates) where
           demands_long = s.demands_long;
           arcs_few = omega (arith, rated_arcs p r, darts_few p f o);
           nodes_few = s.nodes_few;
-          tails_in = λ a l. by-arcs (λ a. tail (rated_of p r) a < nodes (rated_of p r)) m
+          tails_in = λ a l. arc_cases (λ a. tail (rated_of p r) a < nodes (rated_of p r)) m
               (λ d k. omega (arith, nodes_are p, at_bend m (λ d. face_node p d) (λ d. ends_at p d) (λ d. ends_at p d) d k, face_node_below d k))
               (λ d k. omega (arith, nodes_are p, at_low m (λ d. face_node p d) (λ d. ends_at p d) (λ d. ends_at p d) d k, ends_at_below p o d k))
               (λ d k. omega (arith, nodes_are p, at_high m (λ d. face_node p d) (λ d. ends_at p d) (λ d. ends_at p d) d k, ends_at_below p o d k)) a (omega (arith, rated_arcs p r));
-          heads_in = λ a l. by-arcs (λ a. head (rated_of p r) a < nodes (rated_of p r)) m
+          heads_in = λ a l. arc_cases (λ a. head (rated_of p r) a < nodes (rated_of p r)) m
               (λ d k. omega (arith, nodes_are p, at_bend m (λ d. face_node p (twin d)) (λ d. face_node p d) (λ d. face_node p d) d k, face_node_below (twin d) (twin_dart p o d k)))
               (λ d k. omega (arith, nodes_are p, at_low m (λ d. face_node p (twin d)) (λ d. face_node p d) (λ d. face_node p d) d k, face_node_below d k))
               (λ d k. omega (arith, nodes_are p, at_high m (λ d. face_node p (twin d)) (λ d. face_node p d) (λ d. face_node p d) d k, face_node_below d k)) a (omega (arith, rated_arcs p r));
-          ordered = λ a l. by-arcs (λ a. lower (rated_of p r) a ≤ upper (rated_of p r) a) m
+          ordered = λ a l. arc_cases (λ a. lower (rated_of p r) a ≤ upper (rated_of p r) a) m
               (λ d k. omega (arith, at_bend m (λ d. 0) (λ d. 1) (λ d. 0) d k))
               (λ d k. omega (arith, at_low m (λ d. 0) (λ d. 1) (λ d. 0) d k, at_low m (λ d. bend_most r.limits d) (λ d. pick (is_joint p d) 2 4) (λ d. pick (is_joint p d) 1 0) d k, joint_uppers (is_joint p d)))
               (λ d k. omega (arith, at_high m (λ d. 0) (λ d. 1) (λ d. 0) d k)) a (omega (arith, rated_arcs p r));
-          cheap = λ a l. by-arcs (λ a. cost (rated_of p r) a < cost_most) m
+          cheap = λ a l. arc_cases (λ a. cost (rated_of p r) a < cost_most) m
               (λ d k. omega (arith, at_bend m (λ d. bend_cost r.prices d) (λ d. 0) (λ d. 65536) d k, fair.price_most (d / 2)))
               (λ d k. omega (arith, at_low m (λ d. bend_cost r.prices d) (λ d. 0) (λ d. 65536) d k))
               (λ d k. omega (arith, at_high m (λ d. bend_cost r.prices d) (λ d. 0) (λ d. 65536) d k)) a (omega (arith, rated_arcs p r));

@@ -60,7 +60,7 @@ module _ (p : Plate) (a : Accepted p) (r : Rates) (fair : Fair r) (x : List ℕ)
     darts_most = few;
     long = b.least.flow.long ∙ rated_arcs p r;
     units_fit = λ d l. omega (arith, most d l);
-    corners_fit = λ d l. omega (arith, parts.corner-most d l);
+    corners_fit = λ d l. omega (arith, parts.corner_range d l);
     total_fits = bends_fit;
   }
 
@@ -78,14 +78,14 @@ module _ (p : Plate) (a : Accepted p) (r : Rates) (fair : Fair r) (x : List ℕ)
     flow_held = record {
       rights_long = ap length rights_are ∙ parts.units_long;
       angles_long = ap length angles_are ∙ parts.corners_long;
-      rights_held = subst (λ (l : List ℕ). Table 256 (λ i. get_or l i 0) s.rights) (sym rights_are) t.rights;
-      angles-held = subst (λ (l : List ℕ). Table 256 (λ i. get_or l i 0) s.angles) (sym angles_are) t.angles;
+      rights_padded = subst (λ (l : List ℕ). Table 256 (λ i. get_or l i 0) s.rights) (sym rights_are) t.rights;
+      angles_padded = subst (λ (l : List ℕ). Table 256 (λ i. get_or l i 0) s.angles) (sym angles_are) t.angles;
       best = rw (rights_are, angles_are) (least_is_best p a r fair x b.least).0;
       counts = rw rights_are (least_is_best p a r fair x b.least).1;
       bends_total = t.sum ∙ ap total (sym rights_are);
       total_fits = omega (arith, t.sum, bends_fit);
       right_most = λ d l. omega (arith, ap (λ (k : List ℕ). get_or k d 0) rights_are, most d l);
-      angle_range = rw angles_are parts.corner-most;
+      angle_range = rw angles_are parts.corner_range;
     }
 
   pub shape_held : (m : ℕ) → m ≡ darts p → (s : BestShape) → Taken m x s → ShapeHeld p (BestBy p r) s
@@ -101,8 +101,8 @@ held_map : (p : Plate) (So Such : Shape → Type 0) → ((s : Shape) → So s �
 held_map p So Such f r h = record {
   rights_long = h.rights_long;
   angles_long = h.angles_long;
-  rights_held = h.rights_held;
-  angles-held = h.angles-held;
+  rights_padded = h.rights_padded;
+  angles_padded = h.angles_padded;
   best = f (shape_of p (angles_held p r) (right_bends p r)) h.best;
   counts = h.counts;
   bends_total = h.bends_total;
@@ -131,8 +131,8 @@ module _ (p : Plate) (So : Shape → Type 0) (one : (s u : Shape) → So s → S
 
   shape_only : r ≡ s
   shape_only = λ i. record {
-    angles = table_only 256 (λ j. get_or (angles_held p s) j 0) r.angles s.angles (subst (λ (l : List ℕ). Table 256 (λ j. get_or l j 0) r.angles) same_angles h.angles-held) k.angles-held i;
-    rights = table_only 256 (λ j. get_or (right_bends p s) j 0) r.rights s.rights (subst (λ (l : List ℕ). Table 256 (λ j. get_or l j 0) r.rights) same_rights h.rights_held) k.rights_held i;
+    angles = table_only 256 (λ j. get_or (angles_held p s) j 0) r.angles s.angles (subst (λ (l : List ℕ). Table 256 (λ j. get_or l j 0) r.angles) same_angles h.angles_padded) k.angles_padded i;
+    rights = table_only 256 (λ j. get_or (right_bends p s) j 0) r.rights s.rights (subst (λ (l : List ℕ). Table 256 (λ j. get_or l j 0) r.rights) same_rights h.rights_padded) k.rights_padded i;
     total = (h.bends_total ∙ ap total same_rights ∙ sym k.bends_total) i;
   }
 

@@ -12,7 +12,7 @@ use Rattle.embedding.specs.Plates.{when, Plate, darts, strips, twin, ends_at, fa
 use Rattle.embedding.proofs.Rotation.{Ordered}
 use Rattle.shapes.specs.Shapes.{rights, lefts, nth_w, plus_side, minus_side, angle_sum, words_from}
 use Rattle.shapes.specs.Judge.{group_sum}
-use Rattle.shapes.proofs.Groups.{group-sum}
+use Rattle.shapes.proofs.Groups.{group_sum_below}
 use Rattle.shapes.proofs.Meets.{lefts_at}
 use Rattle.shapes.proofs.Places.{index_sum}
 use Rattle.shapes.proofs.Totals.{corners_from_sum}
@@ -30,7 +30,7 @@ minus_sum al ws (d ∷ ds) = omega (arith, minus_sum al ws ds)
 group_cong : (n m : ℕ) (key key' g g' : ℕ → ℕ) (k : ℕ) → n ≡ m → ((d : ℕ) → d < m → key d ≡ key' d) → ((d : ℕ) → d < m → g d ≡ g' d)
     → group_sum n key g k ≡ sum_below m (λ d. when (eqb (key' d) k) (g' d))
 group_cong n m key key' g g' k e same terms =
-    ap (λ (j : ℕ). group_sum j key g k) e ∙ group-sum m key g k
+    ap (λ (j : ℕ). group_sum j key g k) e ∙ group_sum_below m key g k
     ∙ sum_cong m (λ d. when (eqb (key d) k) (g d)) (λ d. when (eqb (key' d) k) (g' d)) (λ d l. cc (same d l, terms d l))
 
 module _ (p : Plate) (o : Ordered p) (rs : List ℕ) (long : length rs ≡ darts p) where

@@ -17,7 +17,7 @@ use Rattle.shapes.specs.Claims.{balanced, is_flow}
 use Rattle.shapes.specs.NetworkOf.{table, face_supply, face_demand}
 use Rattle.embedding.specs.Read.{face_number}
 use Rattle.shapes.proofs.Totals.{out_sum, in_sum, corners_sum}
-use Rattle.shapes.proofs.Tables.{length_table, get_d_table}
+use Rattle.shapes.proofs.Tables.{length_table, table_at}
 use Rattle.shapes.proofs.Places.{index_sum}
 use Rattle.shapes.proofs.Supplies.{faces_supply, faces_demand}
 use Rattle.shapes.proofs.FlowFacts.{facts_is_flow}
@@ -76,20 +76,20 @@ module _ (p : Plate) (f : Faultless p) (o : Ordered p) where
         arith,
         moved.1 i l,
         out_sum some_units (face i),
-        over_same i l (λ e. get_or some_units e 0) z (get_d_table (darts p) z),
+        over_same i l (λ e. get_or some_units e 0) z (table_at (darts p) z),
         in_sum some_units (face i),
-        over_same i l (λ e. get_or some_units (twin e) 0) (λ e. z (twin e)) (λ e k. get_d_table (darts p) z (twin e) (twin_dart p o e k)),
+        over_same i l (λ e. get_or some_units (twin e) 0) (λ e. z (twin e)) (λ e k. table_at (darts p) z (twin e) (twin_dart p o e k)),
         corners_sum some_corners (face i),
-        over_same i l (λ e. get_or some_corners e 0) (angle p f o) (get_d_table (darts p) (angle p f o)),
+        over_same i l (λ e. get_or some_corners e 0) (angle p f o) (table_at (darts p) (angle p f o)),
       ))
 
   pub some_flow : is_flow p some_corners some_units ≡ true
   some_flow = facts_is_flow p some_corners some_units (record {
     corners_long = length_table (darts p) (angle p f o);
     units_long = length_table (darts p) moved.0;
-    corner-most = λ d l. (omega (arith, get_d_table (darts p) (angle p f o) d l), omega (arith, get_d_table (darts p) (angle p f o) d l, angle_most p f o d l));
+    corner_range = λ d l. (omega (arith, table_at (darts p) (angle p f o) d l), omega (arith, table_at (darts p) (angle p f o) d l, angle_most p f o d l));
     post_four = λ v l.
         sum_cong (darts p) (λ d. when (eqb (ends_at p d) v) (get_or some_corners d 0)) (λ d. when (eqb (ends_at p d) v) (angle p f o d))
-        (λ d k. ap (when (eqb (ends_at p d) v)) (get_d_table (darts p) (angle p f o) d k)) ∙ angles_fill p f o v l;
+        (λ d k. ap (when (eqb (ends_at p d) v)) (table_at (darts p) (angle p f o) d k)) ∙ angles_fill p f o v l;
     face_kept = kept;
   })

@@ -13,7 +13,7 @@ use Rattle.embedding.proofs.Faultless.{Faultless}
 use Rattle.embedding.proofs.Totals.{ends_at_below}
 use Rattle.embedding.proofs.Degrees.{darts_few}
 use Rattle.shapes.specs.NetworkOf.{table, face_node, face_supply, face_demand, network_of}
-use Rattle.shapes.proofs.Tables.{length_table, get_d_table, get_d_first, get_d_second, two_first, two_second, by_parts, total_append, total_replicate, total_map}
+use Rattle.shapes.proofs.Tables.{length_table, table_at, first_at, second_at, two_first, two_second, by_parts, total_append, total_replicate, total_map}
 use Rattle.shapes.proofs.Places.{index_below}
 use Rattle.shapes.proofs.Nodes.{arcs_are, nodes_are}
 use Rattle.shapes.proofs.Supplies.{faces_supply, faces_demand}
@@ -22,10 +22,10 @@ use Rattle.shapes.proofs.Excess.{excess_most, excess_few}
 -- ends by a rule for the darts and one for the corners
 module _ (m : ℕ) (f g : ℕ → ℕ) where
   pub table_first : (d : ℕ) → d < m → get_or (table m f ++ table m g) d 0 ≡ f d
-  table_first d l = get_d_first (table m f) (table m g) m (length_table m f) d l ∙ get_d_table m f d l
+  table_first d l = first_at (table m f) (table m g) m (length_table m f) d l ∙ table_at m f d l
 
   pub table_second : (d : ℕ) → d < m → get_or (table m f ++ table m g) (m + d) 0 ≡ g d
-  table_second d l = get_d_second (table m f) (table m g) m (length_table m f) d ∙ get_d_table m g d l
+  table_second d l = second_at (table m f) (table m g) m (length_table m f) d ∙ table_at m g d l
 
   pub table_below : (k : ℕ) → ((d : ℕ) → d < m → f d < k) → ((d : ℕ) → d < m → g d < k) → (a : ℕ) → a < m + m → get_or (table m f ++ table m g) a 0 < k
   table_below k f-below g-below = by_parts (λ a. get_or (table m f ++ table m g) a 0 < k) m m (λ d l. omega (arith, table_first d l, f-below d l)) (λ d l. omega (arith, table_second d l, g-below d l))

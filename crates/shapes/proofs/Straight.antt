@@ -15,7 +15,7 @@ use Rattle.embedding.proofs.Faces.{face_all_below}
 use Rattle.shapes.specs.Shapes.{total}
 use Rattle.shapes.specs.Claims.{goes_out, comes_in, balanced, is_flow}
 use Rattle.shapes.specs.NetworkOf.{table}
-use Rattle.shapes.proofs.Tables.{length_table, get_d_table}
+use Rattle.shapes.proofs.Tables.{length_table, table_at}
 use Rattle.shapes.proofs.Places.{face_below_darts}
 use Rattle.shapes.proofs.FlowFacts.{is_flow_facts, facts_is_flow}
 use Rattle.shapes.proofs.Flows.{gone, come, balanced_is}
@@ -32,7 +32,7 @@ module _ (p : Plate) (o : Ordered p) (ys : List ℕ) where
   both_twin d = omega (arith, ap (λ (e : ℕ). get_or ys e 0) (twin_twin d))
 
   pub less : (d : ℕ) → d < darts p → get_or straightened d 0 + both d ≡ get_or ys d 0
-  less d l = omega (arith, get_d_table (darts p) (λ d. get_or ys d 0 - both d) d l)
+  less d l = omega (arith, table_at (darts p) (λ d. get_or ys d 0 - both d) d l)
 
   goes_less : (ds : List ℕ) → all_below (darts p) ds ≡ true → goes_out ds straightened + sum_over ds both ≡ goes_out ds ys
   goes_less [] a = refl
@@ -55,7 +55,7 @@ module _ (p : Plate) (o : Ordered p) (ys : List ℕ) where
       facts_is_flow p cs straightened (record {
         corners_long = f.corners_long;
         units_long = length_table (darts p) (λ d. get_or ys d 0 - both d);
-        corner-most = f.corner-most;
+        corner_range = f.corner_range;
         post_four = f.post_four;
         face_kept = λ i l. kept (get_or (faces p) i 0) (face_below_darts p o i l) (f.face_kept i l);
       })

@@ -12,7 +12,7 @@ use Rattle.std.specs.List.{list_all, range_with_len}
 use Rattle.finite.proofs.Sums.{sum_below}
 use Rattle.finite.proofs.Tests.{and_left, and_right}
 use Rattle.shapes.proofs.Strips.{free_within}
-use Rattle.shapes.proofs.Chains.{all_shift}
+use Rattle.shapes.proofs.ListTests.{all_shift}
 use Rattle.shapes.specs.Rates.{rates, Fair, prices_ok, all_within, priced_sum}
 
 -- a price and the bends of a strip

@@ -27,13 +27,13 @@ past ps d =
     let q : 1 + d / 2 ≡ suc (suc d) / 2 = omega arith in
     get_or-drop 1 ps (d / 2) 1 ∙ ap (λ (k : ℕ). get_or ps k 1) q
 
-pub priced-sum : (ps xs : List ℕ) → length xs % 2 ≡ 0 → priced_sum ps (pair_sums xs) ≡ sum_below (length xs) (λ d. price_at ps d * get_or xs d 0)
-priced-sum ps [] e = refl
-priced-sum ps (a ∷ []) e = absurd (omega arith)
-priced-sum ps (a ∷ (b ∷ xs)) e =
+pub priced_by_dart : (ps xs : List ℕ) → length xs % 2 ≡ 0 → priced_sum ps (pair_sums xs) ≡ sum_below (length xs) (λ d. price_at ps d * get_or xs d 0)
+priced_by_dart ps [] e = refl
+priced_by_dart ps (a ∷ []) e = absurd (omega arith)
+priced_by_dart ps (a ∷ (b ∷ xs)) e =
     omega (
       arith,
-      priced-sum (drop 1 ps) xs (omega arith),
+      priced_by_dart (drop 1 ps) xs (omega arith),
       mul-add (get_or ps 0 1) a b,
       sum_cong (length xs) (λ d. price_at (drop 1 ps) d * get_or xs d 0) (λ d. price_at ps (suc (suc d)) * get_or xs d 0) (λ d l. ap (λ (k : ℕ). k * get_or xs d 0) (past ps d)),
     )

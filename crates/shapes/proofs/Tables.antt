@@ -16,31 +16,31 @@ pub length_table : (n : ℕ) (f : ℕ → ℕ) → length (table n f) ≡ n
 length_table zero f = refl
 length_table (suc n) f = ap suc (length_table n (λ i. f (suc i)))
 
-pub get_d_table : (n : ℕ) (f : ℕ → ℕ) (i : ℕ) → i < n → get_or (table n f) i 0 ≡ f i
-get_d_table zero f i l = absurd (omega arith)
-get_d_table (suc n) f zero l = refl
-get_d_table (suc n) f (suc i) l = get_d_table n (λ i. f (suc i)) i (le_of_suc-le-suc l)
+pub table_at : (n : ℕ) (f : ℕ → ℕ) (i : ℕ) → i < n → get_or (table n f) i 0 ≡ f i
+table_at zero f i l = absurd (omega arith)
+table_at (suc n) f zero l = refl
+table_at (suc n) f (suc i) l = table_at n (λ i. f (suc i)) i (le_of_suc-le-suc l)
 
-pub get_d_map_in : (f : ℕ → ℕ) (xs : List ℕ) (i : ℕ) → i < length xs → get_or (map f xs) i 0 ≡ f (get_or xs i 0)
-get_d_map_in f [] i l = absurd (omega arith)
-get_d_map_in f (x ∷ xs) zero l = refl
-get_d_map_in f (x ∷ xs) (suc i) l = get_d_map_in f xs i (le_of_suc-le-suc l)
+pub map_at : (f : ℕ → ℕ) (xs : List ℕ) (i : ℕ) → i < length xs → get_or (map f xs) i 0 ≡ f (get_or xs i 0)
+map_at f [] i l = absurd (omega arith)
+map_at f (x ∷ xs) zero l = refl
+map_at f (x ∷ xs) (suc i) l = map_at f xs i (le_of_suc-le-suc l)
 
 -- two parts, the first n long
 module _ (xs ys : List ℕ) (n : ℕ) (long : length xs ≡ n) where
-  pub get_d_first : (i : ℕ) → i < n → get_or (xs ++ ys) i 0 ≡ get_or xs i 0
-  get_d_first i l = get_or-append xs ys 0 i (omega arith)
+  pub first_at : (i : ℕ) → i < n → get_or (xs ++ ys) i 0 ≡ get_or xs i 0
+  first_at i l = get_or-append xs ys 0 i (omega arith)
 
-  pub get_d_second : (i : ℕ) → get_or (xs ++ ys) (n + i) 0 ≡ get_or ys i 0
-  get_d_second i = subst (λ (k : ℕ). get_or (xs ++ ys) (k + i) 0 ≡ get_or ys i 0) long (get_or-append-add xs ys i 0)
+  pub second_at : (i : ℕ) → get_or (xs ++ ys) (n + i) 0 ≡ get_or ys i 0
+  second_at i = subst (λ (k : ℕ). get_or (xs ++ ys) (k + i) 0 ≡ get_or ys i 0) long (get_or-append-add xs ys i 0)
 
 -- m of one number, then m of another
 module _ (m a b : ℕ) where
   pub two_first : (i : ℕ) → i < m → get_or (replicate m a ++ replicate m b) i 0 ≡ a
-  two_first i l = get_d_first (replicate m a) (replicate m b) m (length-replicate m a) i l ∙ get_or-replicate m i a 0 l
+  two_first i l = first_at (replicate m a) (replicate m b) m (length-replicate m a) i l ∙ get_or-replicate m i a 0 l
 
   pub two_second : (i : ℕ) → i < m → get_or (replicate m a ++ replicate m b) (m + i) 0 ≡ b
-  two_second i l = get_d_second (replicate m a) (replicate m b) m (length-replicate m a) i ∙ get_or-replicate m i b 0 l
+  two_second i l = second_at (replicate m a) (replicate m b) m (length-replicate m a) i ∙ get_or-replicate m i b 0 l
 
 pub by_parts : (P : ℕ → Type 0) (m n : ℕ) → ((i : ℕ) → i < m → P i) → ((i : ℕ) → i < n → P (m + i)) → (a : ℕ) → a < m + n → P a
 by_parts P m n f g a l = go (dec_lt a m)

@@ -48,6 +48,6 @@ module _ (p : Plate) (o : Ordered p) where
 
   pub tamassia : Network p
   tamassia = record {
-    flow-of = λ s e. (s.angles, rights_of s.words, shape_flow s e, refl);
-    shape-of = λ cs xs e. (shape_of p cs xs, flow_shape cs xs e, flow_bends cs xs e);
+    flow_for = λ s e. (s.angles, rights_of s.words, shape_flow s e, refl);
+    shape_for = λ cs xs e. (shape_of p cs xs, flow_shape cs xs e, flow_bends cs xs e);
   }

@@ -79,16 +79,16 @@ row_best r pot e =
     unrated_best p (faultless p a) (ordered p a) r.angles r.rights third.0
     (certified_least (rated_of p unrated) pot (flow_of r) third.1 (sound_by p a unrated (fair_unpriced [])) (unrated_flow p (ordered p a) r.angles r.rights third.0))
 
-rows-best : (rs : List Row) (pots : List (List ℕ)) → are_least rs pots ≡ true → rows_best rs
-rows-best [] pots e = tt
-rows-best (r ∷ rs) [] e = absurd (false≢true e)
-rows-best (r ∷ rs) (pot ∷ pots) e =
+each_best : (rs : List Row) (pots : List (List ℕ)) → are_least rs pots ≡ true → rows_best rs
+each_best [] pots e = tt
+each_best (r ∷ rs) [] e = absurd (false≢true e)
+each_best (r ∷ rs) (pot ∷ pots) e =
     let both = and_parts (not (eqb r.fault 0) || is_least r pot) (are_least rs pots) e in
-    (λ z. row_best r pot (or_second (not (eqb r.fault 0)) (is_least r pot) both.0 (ap not (eq-eqb r.fault 0 z))), rows-best rs pots both.1)
+    (λ z. row_best r pot (or_second (not (eqb r.fault 0)) (is_least r pot) both.0 (ap not (eq-eqb r.fault 0 z))), each_best rs pots both.1)
 
 -- P1 to P7, and the strip from a post to itself
 pub table_best : rows_best rows
-table_best = rows-best rows potentials refl
+table_best = each_best rows potentials refl
 
 -- the last row
 pub loop_best : Best loop.tried (given loop)

@@ -18,8 +18,8 @@ angles_held p r = take (darts p) r.angles
 pub record ShapeHeld (p : Plate) (So : Shape → Type 0) (r : BestShape) : Type 0 where
   pub rights_long : length (right_bends p r) ≡ darts p
   pub angles_long : length (angles_held p r) ≡ darts p
-  pub rights_held : Table 256 (λ i. get_or (right_bends p r) i 0) r.rights
-  pub angles-held : Table 256 (λ i. get_or (angles_held p r) i 0) r.angles
+  pub rights_padded : Table 256 (λ i. get_or (right_bends p r) i 0) r.rights
+  pub angles_padded : Table 256 (λ i. get_or (angles_held p r) i 0) r.angles
   pub best : So (shape_of p (angles_held p r) (right_bends p r))
   pub counts : rights_of (shape_of p (angles_held p r) (right_bends p r)).words ≡ right_bends p r
   pub bends_total : r.total ≡ total (right_bends p r)

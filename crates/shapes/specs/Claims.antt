@@ -1,6 +1,6 @@
 -- The best shape of a plate: demand 3; the network.
 use Rattle.std.specs.Prelude.{◌≡◌, ◌⊎◌, Bool, true, ◌&&◌, List, [], ◌∷◌, ℕ, zero, suc, ◌+◌, ◌*◌, ◌≤◌, eqb, leb, length, get_or}
-pub use Rattle.embedding.specs.Read.{Accepted, Standing}
+pub use Rattle.embedding.specs.Read.{Accepted}
 use Rattle.embedding.specs.Plates.{pick, when, is_in, Plate, darts, twin, ends_at, faces, face_of}
 use Rattle.shapes.specs.Shapes.{Shape, meets, bends, comes_first, rights_of, total, shape_of}
 
@@ -52,8 +52,8 @@ abbrev pub is_flow : Plate → List ℕ → List ℕ → Bool
 is_flow p cs xs = eqb (length cs) (darts p) && (eqb (length xs) (darts p) && (units_ok cs && (posts_supply p.posts 0 p cs && all_balanced p cs xs (faces p))))
 
 pub record Network (p : Plate) : Type 0 where
-  pub flow-of : (s : Shape) → meets p s ≡ true → (cs xs : List ℕ) × (is_flow p cs xs ≡ true) × (total xs ≡ bends s)
-  pub shape-of : (cs xs : List ℕ) → is_flow p cs xs ≡ true → (s : Shape) × (meets p s ≡ true) × (bends s ≡ total xs)
+  pub flow_for : (s : Shape) → meets p s ≡ true → (cs xs : List ℕ) × (is_flow p cs xs ≡ true) × (total xs ≡ bends s)
+  pub shape_for : (cs xs : List ℕ) → is_flow p cs xs ≡ true → (s : Shape) × (meets p s ≡ true) × (bends s ≡ total xs)
 
 pub record Demands : Type 0 where
   pub network : (p : Plate) → Accepted p → Network p

@@ -1,6 +1,6 @@
 -- The verdict on a shape given as counts: refusals 19, 20 and 21, and what the steps to it give.
-use Rattle.std.specs.Prelude.{◌≡◌, Bool, true, ◌&&◌, not, List, ℕ, zero, suc, ◌+◌, eqb, length, get_or}
-use Rattle.embedding.specs.Plates.{pick, when, first_of, all_below, Plate, twin, faces}
+use Rattle.std.specs.Prelude.{Bool, true, ◌&&◌, not, List, ℕ, zero, suc, ◌+◌, eqb, length, get_or}
+use Rattle.embedding.specs.Plates.{pick, when, first_of, Plate, twin, faces}
 use Rattle.shapes.specs.Shapes.{angles_ok, posts_ok, faces_ok, shape_of}
 
 -- 19 an angle outside 1 to 4; 20 angles at a post; 21 turns of a face
@@ -11,11 +11,6 @@ judgement p a r = first_of (when (not (angles_ok a)) 19) (first_of (when (not (p
 abbrev pub group_sum : ℕ → (ℕ → ℕ) → (ℕ → ℕ) → ℕ → ℕ
 group_sum zero key g k = 0
 group_sum (suc n) key g k = group_sum n key g k + when (eqb (key n) k) (g n)
-
--- for each dart its post or its face, of which there are at most n
-pub record Keys (n : ℕ) (keys : List ℕ) : Type 0 where
-  pub long : length keys ≡ 256
-  pub below : all_below n keys ≡ true
 
 -- the angles at a post
 abbrev pub post_angles : List ℕ → List ℕ → ℕ → ℕ

@@ -14,7 +14,8 @@ use flow::nodes::{Infeasible, Node};
 use flow::solve::solve;
 use residual::arcs::{Arc, NO_ARC};
 
-/// The right bends and the angle of each dart, and the sum of the right bends. Unused places are 0.
+/// The angle and the right bends of each dart, and the sum of the right bends. Unused places are 0.
+/// Arrays with a place for each dart that can be: the library has no heap.
 #[derive(Clone, Copy)]
 pub struct BestShape {
     pub angles: [u8; 256],
@@ -24,6 +25,7 @@ pub struct BestShape {
 
 impl BestShape {
     /// The counts of the first `darts` darts.
+    // A text's counts have a method like it: one for both would take the two arrays, which is no plainer.
     pub fn counts(&self, darts: usize) -> Counts<'_>
         requires { (darts ≤ 256) × (darts % 2 ≡ 0) }
         ensures { (result.angles.now ≡ take darts self.now.angles) × (result.rights.now ≡ take darts self.now.rights) }
@@ -35,7 +37,8 @@ impl BestShape {
     }
 }
 
-// A byte for each of `n` places, where `at` gives a number that fits one.
+// A byte for each of the first `n` places, where `at` gives a number that fits one.
+// Not array::from_fn: its closure would have to test for the places behind them.
 fn bytes_of<F: Fn(usize) -> u16>(n: usize, at: F) -> [u8; 256]
     requires few { n ≤ 256 }
     requires given { (i : ℕ) → i < n → F.pre at i }
@@ -74,7 +77,7 @@ fn take_shape(darts: usize, x: &[u16]) -> BestShape
     }
 }
 
-// The answer, in lent space.
+// The answer, in lent space. Of the three lists two go by arc and one by node, so a struct would ask for as many lengths.
 fn best_in(
     q: &Plate,
     by: StripRates,
@@ -115,6 +118,7 @@ pub fn best_by(q: Plate, by: StripRates) -> Option<BestShape>
 }
 
 /// The best shape of an accepted plate: no limits, and each bend costs 1.
+// A plate list has a method of this name, within the limits that the list gives.
 pub fn best(q: Plate) -> BestShape
     ensures { BestHeld (meant q) result }
 {

@@ -5,25 +5,36 @@ ghost use Rattle.embedding.specs.Plates.{all_below, faces};
 ghost use Rattle.embedding.specs.Read.{meant};
 ghost use Rattle.refusals.specs.Numbers.{fault_of};
 ghost use Rattle.shapes.specs.Shapes.{angles_ok, posts_ok, faces_ok, shape_of};
-ghost use Rattle.shapes.specs.Judge.{judgement, Keys, group_sum, post_angles, face_plus, face_minus, all_four, turns_ok, all_turn};
+ghost use Rattle.shapes.specs.Judge.{judgement, group_sum, post_angles, face_plus, face_minus, all_four, turns_ok, all_turn};
 
 use crate::counts::Counts;
-use crate::rates::all_from_one;
+use crate::rates::all_between;
 use embedding::{Plate, twin_of};
 use refusals::Refusal;
 
-// The post or face of dart `d`.
-pub fn key_of(keys: &[u8], n: usize, d: usize) -> usize
-    requires { (d < length keys.now) × (all_below n keys.now ≡ true) }
-    ensures { (result ≡ get_or keys.now d 0) × (result < n) }
-{
-    usize::from(keys[d])
+// For each dart its post or its face, one of `N`.
+#[derive(Clone, Copy)]
+struct Keys<'a, const N: usize> {
+    by_dart: &'a [u8],
+    ghost long: { length by_dart.now ≡ 256 },
+    ghost below: { all_below N by_dart.now ≡ true },
 }
 
+impl<const N: usize> Keys<'_, N> {
+    // The post or the face of dart `d`. Like `post_at` of a plate, which reads another table.
+    fn of(self, d: usize) -> usize
+        requires { d < 256 }
+        ensures { (result ≡ get_or self.entry.by_dart.now d 0) × (result < N) }
+    {
+        usize::from(self.by_dart[d])
+    }
+}
+
+// Is each angle 1 to 4? Like `prices_ok` but for the range: each is the name of a definition.
 fn angles_ok(s: &[u8]) -> bool
     ensures { result ≡ angles_ok s.now }
 {
-    all_from_one(s, 4)
+    all_between(s, 1, 4)
 }
 
 // For each of `N` keys the sum over the darts that have it. `at` gives a dart's key and its number.
@@ -42,37 +53,33 @@ fn group_sum<const N: usize, F: Fn(usize) -> (usize, u32)>(darts: usize, at: F) 
 }
 
 // The sum of the angles at each post.
-fn post_angles(ends: &[u8], angles: &[u8]) -> [u32; 64]
-    requires { Keys 64 ends.now × (length angles.now ≤ 256) }
-    ensures { Table 64 (post_angles ends.now angles.now) result }
+fn post_angles(ends: Keys<64>, angles: &[u8]) -> [u32; 64]
+    requires { length angles.now ≤ 256 }
+    ensures { Table 64 (post_angles ends.entry.by_dart.now angles.now) result }
 {
     group_sum(
         angles.len(),
-        |d| (key_of(ends, 64, twin_of(d)), u32::from(angles[d])),
+        |d| (ends.of(twin_of(d)), u32::from(angles[d])),
     )
 }
 
 // Right bends and 2 for each dart of a face.
-fn face_plus(face: &[u8], rights: &[u8]) -> [u32; 66]
-    requires { Keys 66 face.now × (length rights.now ≤ 256) }
-    ensures { Table 66 (face_plus face.now rights.now) result }
+fn face_plus(face: Keys<66>, rights: &[u8]) -> [u32; 66]
+    requires { length rights.now ≤ 256 }
+    ensures { Table 66 (face_plus face.entry.by_dart.now rights.now) result }
 {
-    group_sum(
-        rights.len(),
-        |d| (key_of(face, 66, d), u32::from(rights[d]) + 2),
-    )
+    group_sum(rights.len(), |d| (face.of(d), u32::from(rights[d]) + 2))
 }
 
 // Left bends, which are the twin's right bends, and the angle of each dart of a face.
-fn face_minus(face: &[u8], counts: Counts) -> [u32; 66]
-    requires { Keys 66 face.now }
-    ensures { Table 66 (face_minus face.now counts.entry.angles.now counts.entry.rights.now) result }
+fn face_minus(face: Keys<66>, counts: Counts) -> [u32; 66]
+    ensures { Table 66 (face_minus face.entry.by_dart.now counts.entry.angles.now counts.entry.rights.now) result }
 {
     let Counts { angles, rights } = counts;
     group_sum(
         angles.len(),
         |d| (
-            key_of(face, 66, d),
+            face.of(d),
             u32::from(rights[twin_of(d)]) + u32::from(angles[d]),
         ),
     )
@@ -86,7 +93,7 @@ fn all_four(sums: [u32; 64], n: usize) -> bool
     (0..n).all(|v| sums[v] == 4)
 }
 
-// The turns of a face add to + 4, or to - 4 if it is the outer one.
+// The turns of a face add to + 4, or to - 4 if it is the outer one. The flag is data of the face, and the definition takes it too.
 fn turns_ok(outer: bool, plus: u32, minus: u32) -> bool
     ensures { result ≡ turns_ok outer plus minus }
 {
@@ -108,7 +115,8 @@ fn posts_ok(q: Plate, angles: &[u8]) -> bool
     requires { length angles.now ≡ q.darts }
     ensures { result ≡ posts_ok (meant q).posts 0 (meant q) angles.now }
 {
-    all_four(post_angles(&q.ends, angles), q.posts)
+    let ends = Keys { by_dart: &q.ends };
+    all_four(post_angles(ends, angles), q.posts)
 }
 
 // The turns of each face add to what they should.
@@ -116,9 +124,10 @@ fn faces_ok(q: Plate, counts: Counts) -> bool
     requires { length counts.angles.now ≡ q.darts }
     ensures { result ≡ faces_ok (meant q) counts.entry.angles.now (shape_of (meant q) counts.entry.angles.now counts.entry.rights.now).words (faces (meant q)) }
 {
-    let plus = face_plus(&q.face, counts.rights);
-    let minus = face_minus(&q.face, counts);
-    let outer = key_of(&q.face, 66, usize::from(q.outer));
+    let face = Keys { by_dart: &q.face };
+    let plus = face_plus(face, counts.rights);
+    let minus = face_minus(face, counts);
+    let outer = face.of(usize::from(q.outer));
     all_turn(plus, minus, q.faces, outer)
 }
 

@@ -1,4 +1,6 @@
 //! The flow network of a plate, as arcs and nodes in lent space.
+//! The plate, its rates and the two lists are parameters of their own: each step takes those that it needs.
+//! That a dart is one of the plate's is asked for at each: a type for such a dart would hold the plate.
 ghost use Rattle.std.specs.Prelude.{◌≡◌, true, false, ◌+◌, ◌<◌, ◌≤◌, length};
 ghost use Rattle.flow.specs.Nodes.{network_from};
 ghost use Rattle.embedding.specs.Read.{meant};
@@ -11,14 +13,14 @@ use embedding::{Plate, twin_of};
 use flow::nodes::Node;
 use residual::arcs::Arc;
 
-// How many arcs the network has.
+/// How many arcs the network has.
 pub fn arc_count(q: &Plate) -> usize
     ensures { (result ≡ q.now.darts + (q.now.darts + q.now.darts)) × (result ≤ 768) }
 {
     q.darts + (q.darts + q.darts)
 }
 
-// How many nodes it has.
+/// How many nodes it has.
 #[tactic(auto, using(crate::proofs::HeldPlate::few_posts, crate::proofs::HeldPlate::few_faces))]
 pub fn node_count(q: &Plate) -> usize
     ensures { (result ≡ q.now.posts + q.now.faces) × (result ≤ 130) }
@@ -148,7 +150,7 @@ fn lay_nodes(q: &Plate, nodes: &mut [Node])
     }
 }
 
-// Arcs: the darts, then the corners, two to each. Nodes: the posts, then the faces.
+/// Arcs: the darts, then the corners, two to each. Nodes: the posts, then the faces.
 pub fn lay_network(q: &Plate, by: StripRates, arcs: &mut [Arc], nodes: &mut [Node])
     requires { ByArc q.now arcs.old × ByNode q.now nodes.old }
     ensures { network_from arcs.new nodes.new ≡ rated_of (meant q.now) (rates by.entry.limits.now by.entry.prices.now) }

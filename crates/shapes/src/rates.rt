@@ -1,7 +1,9 @@
 //! Limits and prices of bends by strip. Against counts: does each strip keep its limit, and what do the bends cost?
 ghost use Rattle.std.specs.List.{list_all};
-ghost use Rattle.std.specs.Prelude.{◌≡◌, ◌&&◌, ◌||◌, ◌+◌, ◌%◌, ◌≤◌, ◌<◌, leb, length, get_or};
+ghost use Rattle.std.specs.Prelude.{◌≡◌, ◌&&◌, ◌||◌, ◌+◌, ◌≤◌, ◌<◌, leb, length, get_or};
 ghost use Rattle.shapes.specs.Rates.{pair_sums, prices_ok, all_within, priced_sum};
+
+use crate::counts::Counts;
 
 /// By strip the most bends, 255 or none given for no limit, and the price of a bend, 1 where none is given.
 #[derive(Clone, Copy)]
@@ -10,18 +12,18 @@ pub struct StripRates<'a> {
     pub prices: &'a [u8],
 }
 
-// Is each number 1 to `most`?
-pub(crate) fn all_from_one(numbers: &[u8], most: u8) -> bool
-    ensures { result ≡ list_all (λ n. leb 1 n && leb n most) numbers.now }
+// Is each number `least` to `most`?
+pub(crate) fn all_between(numbers: &[u8], least: u8, most: u8) -> bool
+    ensures { result ≡ list_all (λ n. leb least n && leb n most) numbers.now }
 {
-    numbers.iter().all(|n| (1..=most).contains(n))
+    numbers.iter().all(|n| (least..=most).contains(n))
 }
 
 /// Is each price 1 to 100?
 pub fn prices_ok(prices: &[u8]) -> bool
     ensures { result ≡ prices_ok prices.now }
 {
-    all_from_one(prices, 100)
+    all_between(prices, 1, 100)
 }
 
 // The number of strip `i`, or `none` where the list is shorter.
@@ -47,19 +49,19 @@ fn keeps_limit(most: u32, bends: u32) -> bool
 }
 
 /// Does each strip keep its limit? Strips behind the last limit have none.
-pub fn limits_ok(limits: &[u8], rights: &[u8]) -> bool
-    requires { (length rights.now % 2 ≡ 0) × (length rights.now ≤ 256) }
-    ensures { result ≡ all_within limits.now (pair_sums rights.now) }
+pub fn limits_ok(limits: &[u8], counts: Counts) -> bool
+    ensures { result ≡ all_within limits.now (pair_sums counts.entry.rights.now) }
 {
+    let rights = counts.rights;
     let strips = limits.len().min(rights.len() / 2);
     (0..strips).all(|i| keeps_limit(u32::from(limits[i]), strip_bends(rights, i)))
 }
 
 /// The bends of each strip times its price, together.
-pub fn price_of(prices: &[u8], rights: &[u8]) -> u32
-    requires { (length rights.now % 2 ≡ 0) × (length rights.now ≤ 256) }
-    ensures { result ≡ priced_sum prices.now (pair_sums rights.now) }
+pub fn price_of(prices: &[u8], counts: Counts) -> u32
+    ensures { result ≡ priced_sum prices.now (pair_sums counts.entry.rights.now) }
 {
+    let rights = counts.rights;
     let mut sum = 0;
     for i in 0..rights.len() / 2 {
         sum += given_or(prices, 1, i) * strip_bends(rights, i);

@@ -22,7 +22,7 @@ pub fn counted_fault(list: &PlateList, read: &Counted) -> Result<(), Refusal>
     let counts = read.counts(darts);
     judge(list.plate, counts)?;
     let limits = list.limits();
-    if !limits_ok(limits, counts.rights) {
+    if !limits_ok(limits, counts) {
         return Err(Refusal::LimitPassed);
     }
     Ok(())

@@ -5,6 +5,5 @@ use Rattle.bests.proofs.show_by.Goals as goal
 
 pub best_by-requires : goal.best_by-requires
 best_by-requires g c =
-    let args = c.args in
     let ok = c.prices_ok in
-    prices_fair args.by.limits.now args.by.prices.now (sym ok.ensures ∙ c.if-not-prices_ok.false)
+    prices_fair c.args.limits.now c.args.prices.now (sym ok.ensures ∙ c.if-not-prices_ok.false)

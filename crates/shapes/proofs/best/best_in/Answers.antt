@@ -12,18 +12,18 @@ best_flow : (c : In-Ok) → Best (rated_of (meant c.args.q.now) (rates c.args.by
 best_flow c = rw c.lay_network.ensures at c.in-Ok.ensures
 
 pub solve-requires-clause-sound : goal.solve-requires-clause-sound
-solve-requires-clause-sound c = rw c.lay_network.ensures (sound_by (meant c.args.q.now) c.args.q.now.accepted (rates c.args.by.limits.now c.args.by.prices.now) c.requires.0)
+solve-requires-clause-sound c = rw c.lay_network.ensures (sound_by _ c.args.q.now.accepted _ c.requires.0)
 
 pub take_shape-requires : goal.take_shape-requires
 take_shape-requires c =
     let q = c.args.q.now in
-    units_small (meant q) q.accepted (rates c.args.by.limits.now c.args.by.prices.now) c.requires.0 c.solve.new.x (best_flow c) q.darts q.stands.dart_count
+    units_small _ q.accepted _ c.requires.0 _ (best_flow c) _ q.stands.dart_count
 
 pub returns-in-Ok : goal.returns-in-Ok
 returns-in-Ok c =
     let q = c.args.q.now in
     let p = (goal.at.returns-in-Ok c).In-Ok in
-    shape_held (meant q) q.accepted (rates c.args.by.limits.now c.args.by.prices.now) c.requires.0 c.solve.new.x (best_flow p) q.darts q.stands.dart_count c.take_shape.result c.take_shape.ensures
+    shape_held _ q.accepted _ c.requires.0 _ (best_flow p) _ q.stands.dart_count _ c.take_shape.ensures
 
 pub returns-in-Err : goal.returns-in-Err
-returns-in-Err c = cut_no_shape (meant c.args.q.now) c.args.q.now.accepted (rates c.args.by.limits.now c.args.by.prices.now) c.requires.0 (rw c.lay_network.ensures at c.in-Err.ensures)
+returns-in-Err c = cut_no_shape _ c.args.q.now.accepted _ c.requires.0 (rw c.lay_network.ensures at c.in-Err.ensures)

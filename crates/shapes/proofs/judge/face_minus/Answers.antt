@@ -6,4 +6,4 @@ use Rattle.shapes.proofs.judge.face_minus.Goals as goal
 pub returns : goal.returns
 returns c =
     let a = c.args.counts in
-    c.group_sum.ensures (λ d. get_or c.args.face.now d 0) (λ d. get_or a.rights.now (twin d) 0 + get_or a.angles.now d 0) (λ d r l e. search rules)
+    c.group_sum.ensures (λ d. get_or c.args.face.by_dart.now d 0) (λ d. get_or a.rights.now (twin d) 0 + get_or a.angles.now d 0) (λ d r l e. search rules)

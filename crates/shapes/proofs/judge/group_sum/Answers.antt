@@ -1,15 +1,7 @@
 -- `group_sum`: the sums of the darts before d, whatever key and number `at` gives each; they are small.
-use Rattle.shapes.proofs.Groups.{adding_start, adding_more, adding_done, few_start, few_more}
+use Rattle.shapes.proofs.Groups.{adding_more, adding_done, few_more}
 use native.Mathlib.Omega.{arith}
 use Rattle.shapes.proofs.judge.group_sum.Goals as goal
-
-pub loop-d-init : goal.loop-d-init
-loop-d-init g c = (λ key number told. adding_start, few_start g.row.N)
-
-pub overflow_add-sums : goal.overflow_add-sums
-overflow_add-sums g c =
-    let small = c.requires.small c.loop-d.d c.at-k.result (omega arith) c.at-k.ensures in
-    omega (arith, small.1, c.loop-d.invariant.1 c.at-k.result.0, c.requires.few)
 
 pub loop-d-preserved : goal.loop-d-preserved
 loop-d-preserved g c =

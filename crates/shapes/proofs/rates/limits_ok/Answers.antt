@@ -1,9 +1,8 @@
 -- `limits_ok`: the strips that have a limit are tried; the others keep theirs.
-use Rattle.std.proofs.Common.{rules, tests, arith, refl, ◌∙◌, ◌/◌, length}
-use Rattle.std.proofs.lemmas.Iterator.{YieldsList-from_range}
-use Rattle.std.proofs.lemmas.Iterator.Search.{all_from_yields_List}
+use Rattle.std.proofs.Common.{rules, tests, arith, ◌∙◌, ◌/◌, length}
 use Rattle.shapes.specs.Rates.{pair_sums}
 use Rattle.shapes.proofs.Pairs.{sums_long}
+use Rattle.shapes.proofs.ListTests.{all_tried}
 use Rattle.shapes.proofs.StripLoops.{keeps_at, within_upto}
 use Rattle.shapes.proofs.rates.limits_ok.Goals as goal
 
@@ -11,6 +10,7 @@ pub returns : goal.returns
 returns c =
     let n = c.min-strips.result in
     let ls = c.args.limits.now in
-    let bs = pair_sums c.args.rights.now in
-    all_from_yields_List (keeps_at ls bs) _ _ c.all.result c.all.ensures.ran (YieldsList-from_range 0 n n refl (omega arith)) (λ x b q k. search (rules, tests))
-    ∙ within_upto n ls bs (omega (arith, sums_long (length c.args.rights.now / 2) c.args.rights.now (omega arith)))
+    let rights = c.args.counts.rights.now in
+    let bs = pair_sums rights in
+    all_tried (keeps_at ls bs) n c.all.result c.all.ensures.ran (λ x b q k. search (rules, tests))
+    ∙ within_upto n ls bs (omega (arith, sums_long (length rights / 2) rights (omega arith)))

@@ -10,24 +10,19 @@ use Rattle.shapes.proofs.Pairs.{sums_long}
 use Rattle.shapes.proofs.StripLoops.{priced_at, priced_upto, product_few}
 use Rattle.shapes.proofs.rates.price_of.Goals as goal
 
-pub overflow_mul-sum : goal.overflow_mul-sum
-overflow_mul-sum c = omega (arith, c.loop-i.invariant.1, product_few c.given_or.result c.strip_bends.result c.given_or.ensures.1 c.strip_bends.ensures.1, c.requires.1)
-
-pub overflow_add-sum : goal.overflow_add-sum
-overflow_add-sum c = omega (arith, c.loop-i.invariant.1, product_few c.given_or.result c.strip_bends.result c.given_or.ensures.1 c.strip_bends.ensures.1, c.requires.1)
-
 pub loop-i-preserved : goal.loop-i-preserved
 loop-i-preserved c =
     let l = c.loop-i in
     let price = c.given_or.ensures in
     let bends = c.strip_bends.ensures in (
-      omega (arith, l.invariant.0, sum_more l.i (priced_at c.args.prices.now (pair_sums c.args.rights.now)), ap₂ (λ (a b : ℕ). a * b) price.0 bends.0),
-      omega (arith, l.invariant.1, product_few c.given_or.result c.strip_bends.result price.1 bends.1),
+      omega (arith, l.invariant.0, sum_more l.i (priced_at c.args.prices.now (pair_sums c.args.counts.rights.now)), ap₂ (λ (a b : ℕ). a * b) price.0 bends.0),
+      omega (arith, l.invariant.1, product_few _ _ price.1 bends.1),
     )
 
 pub returns : goal.returns
 returns c =
-    let n = length c.args.rights.now / 2 in
-    let g = priced_at c.args.prices.now (pair_sums c.args.rights.now) in
+    let rights = c.args.counts.rights.now in
+    let n = length rights / 2 in
+    let g = priced_at c.args.prices.now (pair_sums rights) in
     c.loop-i.invariant.0 ∙ ap (λ (k : ℕ). sum_below k g) (le_antisymm c.loop-i.auto.i-end c.loop-i-test.false)
-    ∙ priced_upto n c.args.prices.now (pair_sums c.args.rights.now) (sums_long n c.args.rights.now (omega arith))
+    ∙ priced_upto n c.args.prices.now (pair_sums rights) (sums_long n rights (omega arith))

@@ -8,4 +8,4 @@ pub returns : goal.returns
 returns c =
     let low = c.type_inv.rights (c.args.i + c.args.i) in
     let high = c.type_inv.rights (c.args.i + c.args.i + 1) in
-    (omega (arith, c.from.ensures, c.from-2.ensures, pair_at c.args.rights.now c.args.i), omega (arith, c.from.ensures, c.from-2.ensures, low, high))
+    (omega (arith, pair_at c.args.rights.now c.args.i), omega (arith, low, high))
