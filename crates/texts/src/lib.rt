@@ -1,12 +1,11 @@
 //! Shapes as texts of faces: to text and back.
 #![tactic(auto)]
 
-ghost use Rattle.std.specs.Prelude.{◌≡◌};
 ghost use Rattle.plates.specs.Answers.{listed_of, shaped_of};
 ghost use Rattle.plates.specs.Texts.{WriteSays, ReadSays};
 
 use crate::counting::{both_ways, print_counts};
-use crate::filing::counted_fault;
+use crate::judging::counted_fault;
 use crate::parsing::parse;
 use crate::planning::plan_of;
 use plates::encoding::Written;
@@ -15,14 +14,16 @@ use refusals::Refusal;
 
 pub mod counting;
 pub mod entries;
-pub mod filing;
+pub mod judging;
 pub mod parsing;
 pub mod planning;
 pub mod printing;
 pub mod scanning;
 
+// In both calls the list, the other file and `out` stay three slices beside each other: two files, and memory for a third, which C gives as they are.
+
 /// Writes the text of a sound shape file to the front of lent memory, or refuses with the check's numbers, 31 or 16 and changes nothing.
-#[tactic(auto, using(crate::proofs::WriteLaws::list_refused_write, crate::proofs::WriteLaws::counts_many))]
+#[tactic(auto, using(crate::proofs::WriteLaws::list_refused_write, plates::proofs::CheckCounts::counts_many))]
 pub fn write_text(list: &[u8], shape: &[u8], out: &mut [u8]) -> Result<usize, Refusal>
     ensures { WriteSays list.now shape.now out.old out.new (listed_of result) }
 {

@@ -14,7 +14,7 @@ pub struct Turn {
     pub last: bool,
 }
 
-/// The turns laid so far. An array with its length: the library has no heap.
+/// The turns laid so far. An array with its length: the library allocates nothing.
 #[derive(Drop)]
 pub struct Laid {
     turns: [Turn; 256],
@@ -52,7 +52,7 @@ impl Laid {
         self.count += 1;
     }
 
-    /// The turns, as a slice.
+    /// The turns, as a slice. Only the form is that of `Replay::list`.
     pub fn turns(&self) -> &[Turn]
         ensures { result.now ≡ self.now }
     {
@@ -78,7 +78,7 @@ fn lay_face(next: &[u8; 256], darts: usize, start: usize, plan: &mut Laid)
     loop {
         let after = usize::from(next[dart]);
         let last = after == start;
-        // As: a dart is below 256, so `u8::try_from` would ask for an error that there is not.
+        // `as`: a dart is below 256, so `u8::try_from` would ask for an error that there is not.
         plan.push(Turn {
             dart: dart as u8,
             last,
