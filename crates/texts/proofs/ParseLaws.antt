@@ -153,8 +153,8 @@ module _ {plan : List Entry} {t : List ℕ} {c : Counted} {left : Option (List E
         }
 
 -- a text that is not of the form
-pub form-refused : {plan : List Entry} {t : List ℕ} {r : Result Counted Refusal} → r ≡ Err TextForm → form_ok t ≡ false → ParsedBy plan t r
-form-refused {plan} {t} e n =
+pub form_refused : {plan : List Entry} {t : List ℕ} {r : Result Counted Refusal} → r ≡ Err TextForm → form_ok t ≡ false → ParsedBy plan t r
+form_refused {plan} {t} e n =
     subst (ParsedBy plan t) (sym e)
     (record {
       number = sym (ap (λ (b : Bool). first_of (when (not b) 30) (first_of (when (some_mixed (entries_in t)) 31) (when (not (same_faces (entries_in t) plan)) 32))) n);

@@ -69,6 +69,7 @@ fn lead_of(face: &[u8], number: usize) -> usize
 }
 
 // The face of dart `start`, laid behind the others.
+#[tactic(auto, using(crate::proofs::LaidLaws::walking_start, crate::proofs::LaidLaws::walking_done, crate::proofs::LaidLaws::walking_more))]
 fn lay_face(next: &[u8; 256], darts: usize, start: usize, plan: &mut Laid)
     requires { FaceRoom next.now darts start plan.old }
     ensures { FaceLaid next.now darts start plan.old plan.new }
@@ -91,6 +92,7 @@ fn lay_face(next: &[u8; 256], darts: usize, start: usize, plan: &mut Laid)
 }
 
 // The face of a number, laid behind the others.
+#[tactic(auto, using(crate::proofs::LayingLaws::number_laid))]
 fn lay_number(plate: Plate, number: usize, plan: &mut Laid)
     requires { NumberFits (meant plate) number plan.old }
     ensures { NumberLaid (meant plate) number plan.old plan.new }
@@ -100,6 +102,7 @@ fn lay_number(plate: Plate, number: usize, plan: &mut Laid)
 }
 
 /// All faces laid.
+#[tactic(auto, using(crate::proofs::LayingLaws::outer_laid))]
 pub fn plan_of(plate: Plate) -> Laid
     ensures { PlanHeld (meant plate) result }
 {

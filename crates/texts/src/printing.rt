@@ -16,6 +16,7 @@ use plates::listing::write_decimal;
 use shapes::counts::Counts;
 
 // How long a number is.
+#[tactic(auto, using(crate::proofs::PrintLaws::digits_counted))]
 fn digits_long(n: usize) -> usize
     ensures long { result ≡ length (decimal n) }
     ensures most { result ≤ 20 }
@@ -25,6 +26,7 @@ fn digits_long(n: usize) -> usize
 }
 
 // How long a word of right and left bends is: - is one byte.
+#[tactic(auto, using(crate::proofs::PrintLaws::word_counted))]
 fn even_word_long(right: u8, left: u8) -> usize
     ensures long { result ≡ length (word_text (even_word right left)) }
     ensures most { result ≤ 510 }
@@ -52,6 +54,7 @@ pub fn text_long(counts: Counts) -> usize
 }
 
 // The byte that a word is a run of, and how often: - is one byte.
+#[tactic(auto, using(crate::proofs::PrintLaws::left_word, crate::proofs::PrintLaws::right_word))]
 fn word_bytes(right: u8, left: u8) -> (u8, usize)
     requires { min right left ≡ 0 }
     ensures { word_text (even_word right left) ≡ replicate result.1 result.0 }

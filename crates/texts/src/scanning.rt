@@ -27,6 +27,7 @@ fn number_in(digits: &[u8]) -> usize
 }
 
 // How many of the digits of a word are 0.
+#[tactic(auto, using(crate::proofs::ScanLaws::zeros_counted))]
 fn zeros_in(digits: &[u8]) -> usize
     ensures zeros { result ≡ rights (bends digits.now) }
     ensures within { result ≤ length digits.now }

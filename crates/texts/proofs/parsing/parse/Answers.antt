@@ -2,7 +2,7 @@
 use Rattle.std.proofs.Common.{refl, ap, rules}
 use Rattle.texts.specs.Parses.{left_seen}
 use Rattle.texts.proofs.FillLaws.{nothing_filled}
-use Rattle.texts.proofs.ParseLaws.{parsing_start, no_form, rest_shorter, taken, parsing_more, not_closed, some_word, not_first, some_unread, all_read, form-refused}
+use Rattle.texts.proofs.ParseLaws.{parsing_start, no_form, rest_shorter, taken, parsing_more, not_closed, some_word, not_first, some_unread, all_read, form_refused}
 use Rattle.texts.proofs.parsing.parse.Goals as goal
 
 pub loop-rest-init : goal.loop-rest-init
@@ -11,7 +11,7 @@ loop-rest-init c = parsing_start _ c.args.text.now (nothing_filled _)
 pub returns-in_err-entry : goal.returns-in_err-entry
 returns-in_err-entry c =
     let none = rw c.in_err-entry.ensures.ok_part at c.read_entry.ensures in
-    form-refused (search rules) (no_form c.loop-rest.invariant (search rules) none)
+    form_refused (search rules) (no_form c.loop-rest.invariant (search rules) none)
 
 pub loop-rest-smaller : goal.loop-rest-smaller
 loop-rest-smaller c =
