@@ -49,9 +49,8 @@ impl Grown<'_> {
         }
     }
 
-    // `out` stays beside `at`, for the reason that `fields::writing` gives.
-    //
     // Writes the limits with the new one behind them from `at` on, if the list has any, and gives the place behind them.
+    // `out` stays beside `at`, for the reason that `fields::writing` gives.
     fn write_limits(&self, out: &mut [u8], at: usize) -> usize
         requires { at + length (more_bytes self.now.list.bytes.now self.now.limit) ≤ length out.old }
         ensures { Written at (more_bytes self.now.list.bytes.now self.now.limit) out.old out.new result }
@@ -98,7 +97,8 @@ impl Grown<'_> {
 
 // In the calls below `list` and `out` stay beside each other, and beside what tells the step: a file, and memory for one, which C gives as they are.
 
-/// Writes the list after a step to the front of lent memory and gives its length, or refuses with the list's number, 35, 36, 37 or 16 and changes nothing.
+/// Writes the list after a step to the front of lent memory and gives its length, or
+/// refuses with the list's number, 35, 36, 37 or 16 and changes nothing.
 pub fn edit_list(list: &[u8], step: Step, out: &mut [u8]) -> Result<usize, Refusal>
     ensures { EditSays list.now step out.old out.new (listed_of result) }
 {

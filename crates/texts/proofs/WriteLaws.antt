@@ -108,3 +108,6 @@ module _ (f : ShapeFile) {s t : List ℕ} (list : f.list.bytes.now ≡ s) (bytes
       text_said o o' v give =
           text_written s t o sound o' v (ways ∙ one)
           (subst (λ (x : List ℕ). Gives x o o' v) (λ i. face_text (table i) (angles_are i) (shape_of (table i) (angles_are i) (rights_are i)).words) give)
+
+-- what the call's steps give
+pub ruleset steps = (list_refused_write, both_refused, counts_straight, text_said)

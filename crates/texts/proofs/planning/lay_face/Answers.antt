@@ -5,9 +5,9 @@ use Rattle.texts.proofs.LaidLaws.{walking_room}
 use Rattle.texts.proofs.planning.lay_face.Goals as goal
 
 pub push-requires : goal.push-requires
-push-requires c = walking_room c.requires c.loop-darts.invariant
+push-requires c = walking_room c.requires c.loop-start.invariant
 
-pub loop-darts-smaller : goal.loop-darts-smaller
-loop-darts-smaller c =
-    let q = c.loop-darts.plan in
-    omega (arith, walking_room c.requires c.loop-darts.invariant, ap length c.push.ensures, length-append q (record { dart = c.loop-darts.dart; last = eqb c.from-after.result c.args.start } ∷ []))
+pub loop-start-smaller : goal.loop-start-smaller
+loop-start-smaller c =
+    let q = c.loop-start.plan in
+    omega (arith, walking_room c.requires c.loop-start.invariant, ap length c.push.ensures, length-append q (record { dart = c.loop-start.dart; last = eqb c.from-after.result c.args.start } ∷ []))

@@ -3,4 +3,4 @@ use Rattle.texts.proofs.LayingLaws.{number_room}
 use Rattle.texts.proofs.planning.lay_number.Goals as goal
 
 pub lay_face-requires : goal.lay_face-requires
-lay_face-requires c = number_room c.args.plate c.requires c.lead_of-start.ensures
+lay_face-requires c = number_room c.args.plate.now c.requires c.lead_of-start.ensures
