@@ -1,4 +1,5 @@
-//! Shapes and checks small plates, converts their shapes to text and back, and prints a line for each. The expected lines were worked out by hand from document 01.
+//! Shapes and checks small plates, converts their shapes to text and back, and prints a line for each. The expected
+//! lines were worked out by hand from document 01.
 //! A line of shaping: the label, the number, and with 0 the length, the bends and the bytes; then how many bytes behind the
 //! shape, or with a refusal in the whole memory, are as they were lent. A line of checking: the label, the number, and with
 //! 0 the total, the fewest and whether the shape is the one that shaping writes. A line of text: a shape file converted to
