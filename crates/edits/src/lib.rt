@@ -50,6 +50,7 @@ impl Grown<'_> {
     }
 
     // Writes the limits with the new one behind them from `at` on, if the list has any, and gives the place behind them.
+    // `out` stays beside `at`, for the reason that `fields::writing` gives.
     fn write_limits(&self, out: &mut [u8], at: usize) -> usize
         requires { at + length (more_bytes self.now.list.bytes.now self.now.limit) ≤ length out.old }
         ensures { Written at (more_bytes self.now.list.bytes.now self.now.limit) out.old out.new result }
@@ -74,6 +75,7 @@ impl Grown<'_> {
         let darts = self.plate.darts;
         let order = self.plate.order();
         let second = write_field(out, 0, 0x01, self.list.fields.revision);
+        // `as`: there are at most 64 posts, and `u8::try_from` would test it again.
         let third = write_field(out, second, 0x02, &[self.plate.posts as u8]);
         let fourth = write_field(out, third, 0x03, &self.plate.ends[..darts]);
         let fifth = write_field(out, fourth, 0x04, &order[..darts]);
@@ -82,6 +84,7 @@ impl Grown<'_> {
     }
 
     // Writes the list to the front of lent memory, or refuses with 16 and changes nothing.
+    #[tactic(auto, using(crate::proofs::EditLaws::written_gives))]
     fn write(&self, out: &mut [u8]) -> Result<usize, Refusal>
         ensures { Gives (grown_bytes self.now.list.bytes.now (meant self.now.plate) self.now.limit) out.old out.new (listed_of result) }
     {
@@ -92,7 +95,10 @@ impl Grown<'_> {
     }
 }
 
-/// Writes the list after a step to the front of lent memory and gives its length, or refuses with the list's number, 35, 36, 37 or 16 and changes nothing.
+// In the calls below `list` and `out` stay beside each other, and beside what tells the step: a file, and memory for one, which C gives as they are.
+
+/// Writes the list after a step to the front of lent memory and gives its length, or
+/// refuses with the list's number, 35, 36, 37 or 16 and changes nothing.
 pub fn edit_list(list: &[u8], step: Step, out: &mut [u8]) -> Result<usize, Refusal>
     ensures { EditSays list.now step out.old out.new (listed_of result) }
 {
@@ -106,6 +112,8 @@ pub fn edit_list(list: &[u8], step: Step, out: &mut [u8]) -> Result<usize, Refus
     };
     after.write(out)
 }
+
+// `split_strip` and `hang_strip` are alike but for the step: each is a name for one step, as the library's C functions are.
 
 /// A strip ends at a new post, and a new strip runs from there to its old end.
 pub fn split_strip(list: &[u8], strip: usize, out: &mut [u8]) -> Result<usize, Refusal>

@@ -6,10 +6,10 @@ use std::io;
 use std::io::Read;
 use texts::read_text;
 
-// Writes the shape file, by way of `out`.
+// Writes the shape file, by way of `out`. Three slices: two files, and memory for a third.
 fn show(rt: &impl Print, list: &[u8], text: &[u8], out: &mut [u8]) -> io::Result<()> {
     match read_text(list, text, out) {
-        // As: no `From` takes a u32 to a usize.
+        // `as`: usize has no From of u32.
         Ok(file) => rt.write_all(&out[..file.long as usize]),
         Err(refusal) => println!(rt; "{refusal}"),
     }

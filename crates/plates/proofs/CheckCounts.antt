@@ -4,6 +4,10 @@ use mathlib.Core.Bool.{Bool, true, false, ◌&&◌}
 use mathlib.Core.List.{List}
 use Prim.Native.Nat.{ℕ}
 use lib.ListN.{length}
+use Rattle.std.specs.Prelude.{Result, Err}
+use Rattle.refusals.specs.Numbers.{number_of, fault_of}
+use Rattle.refusals.specs.declared.Refusal.{Refusal}
+use Rattle.refusals.proofs.Numbered.{some_number}
 use Rattle.embedding.specs.Read.{meant}
 use Rattle.shapes.specs.Judge.{judgement}
 use Rattle.plates.specs.Shapes.{total, same, pair_sums, all_within}
@@ -29,9 +33,6 @@ module _ (f : ShapeFile) where
     number_is : j ≡ judgement (plate_of s) (angles_in t) (rights_in t)
     number_is = judged ∙ (λ i. judgement (f.list.table i) (f.angles i) (f.rights i))
 
-    pub file_judged : (j ≡ 0 → ⊥) → j ≡ check_fault s t
-    file_judged = judged_fault s t f.list.accepted f.accepted number_is
-
     module _ (z : j ≡ 0) {n k : ℕ} (said : n ≡ word f.total.now) (sum : k ≡ total f.counts.rights.now) where
       pub file_total : (n ≡ k → ⊥) → 22 ≡ check_fault s t
       file_total = total_fault s t f.list.accepted f.accepted number_is z (said ∙ ap word f.total_said) (sum ∙ ap total f.rights)
@@ -46,9 +47,15 @@ module _ (f : ShapeFile) where
         pub file_sound : w ≡ true → 0 ≡ check_fault s t
         file_sound = counts_pass s t f.list.accepted f.accepted number_is z (said ∙ ap word f.total_said) (sum ∙ ap total f.rights) y within_is
 
+  pub file_judged : {A : Type 0} {v : Result A Refusal} {r : Refusal} → v ≡ Err r → number_of r ≡ judgement (meant f.list.plate) f.counts.angles.now f.counts.rights.now → fault_of v ≡ check_fault s t
+  file_judged {r = r} is q = ap fault_of is ∙ judged_fault s t f.list.accepted f.accepted (number_is q) (some_number r)
+
   -- a sound file, against the counts of the best shape
   pub file_verdict : {a x : List ℕ} {n fewest : ℕ} {ours : Bool} → check_fault s t ≡ 0 → BestCounts s a x → n ≡ total f.counts.rights.now → fewest ≡ total x → ours ≡ (same a f.counts.angles.now && same x f.counts.rights.now)
       → CheckSays s t (verdict 0 n fewest ours)
   file_verdict {a} {x} {n} {fewest} {ours} e best sum few own =
       subst (λ (k : ℕ). CheckWith k s t (verdict 0 n fewest ours)) (sym e)
       (refl, sum ∙ ap total f.rights, (a, x, best.best, best.counts, (few, own ∙ (λ i. same a (f.angles i) && same x (f.rights i)))))
+
+-- the steps of the check
+pub ruleset steps = (counts_many, file_total, file_limits, file_sound)

@@ -6,12 +6,17 @@ use Prim.Native.Nat.{ℕ, zero, suc}
 use lib.Dec.{eqb}
 use lib.ListN.{length}
 use borrow.Author.Tests.{eqb-true, eq-eqb, ne_eqb, not-false}
+use Rattle.std.specs.Prelude.{Result, Err}
+use Rattle.refusals.specs.Numbers.{number_of}
+use Rattle.refusals.specs.declared.Refusal.{Refusal}
+use Rattle.refusals.proofs.Numbered.{some_number}
 use Rattle.finite.proofs.Tests.{and_left, and_right, first_none, first_some, first_assoc, when_none}
 use Rattle.plates.specs.Plates.{first_of, when, darts, faces}
 use Rattle.plates.specs.Shapes.{total, angles_ok, posts_ok, faces_ok, pair_sums, all_within, shape_of}
 use Rattle.plates.specs.Files.{content_of, walk_all, list_fault, plate_of, limits_of}
 use Rattle.plates.specs.Says.{word, angles_in, rights_in, check_fault, CheckWith, CheckSays}
-use Rattle.plates.specs.Answers.{verdict}
+use Rattle.plates.specs.Answers.{verdict, verdict_of}
+use Rattle.plates.specs.declared.checking.Sound.{Sound}
 use Rattle.plates.specs.Read.{shape_file_fault}
 use Rattle.shapes.specs.Judge.{judgement}
 
@@ -59,13 +64,16 @@ module _ (s t : List ℕ) where
   refused_with zero n = absurd (n refl)
   refused_with (suc e) n = (refl, refl, refl, refl)
 
-  pub refused_check : (e : ℕ) → check_fault s t ≡ e → (e ≡ 0 → ⊥) → CheckSays s t (verdict e 0 0 false)
-  refused_check e q n = subst (λ (k : ℕ). CheckWith k s t (verdict e 0 0 false)) (sym q) (refused_with e n)
+  pub refused_check : {v : Result Sound Refusal} {r : Refusal} → v ≡ Err r → number_of r ≡ check_fault s t → CheckSays s t (verdict_of v)
+  refused_check {r = r} is q =
+      subst (λ (w : Result Sound Refusal). CheckSays s t (verdict_of w)) (sym is)
+      (subst (λ (k : ℕ). CheckWith k s t (verdict (number_of r) 0 0 false)) q (refused_with (number_of r) (some_number r)))
 
   module _ (none : list_fault s ≡ 0) where
-    pub file_refused_check : (e : ℕ) → e ≡ shape_file_fault s t → (e ≡ 0 → ⊥) → CheckSays s t (verdict e 0 0 false)
-    file_refused_check e q n =
-        refused_check e (places ∙ ap (λ (k : ℕ). first_of k (first_of (shape_file_fault s t) judged_then)) none ∙ first_some (shape_file_fault s t) judged_then (λ z. n (q ∙ z)) ∙ sym q) n
+    pub file_refused_check : {v : Result Sound Refusal} {r : Refusal} → v ≡ Err r → number_of r ≡ shape_file_fault s t → CheckSays s t (verdict_of v)
+    file_refused_check {r = r} is q =
+        refused_check is
+        (q ∙ sym (places ∙ ap (λ (k : ℕ). first_of k (first_of (shape_file_fault s t) judged_then)) none ∙ first_some (shape_file_fault s t) judged_then (λ z. some_number r (q ∙ z))))
 
     module _ (sound-file : shape_file_fault s t ≡ 0) where
       pub later : check_fault s t ≡ judged_then

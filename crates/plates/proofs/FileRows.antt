@@ -70,3 +70,6 @@ module _ (l : PlateList) (k : Counts) (g : FileGiven l.plate.darts k.angles.now 
         long = omega (arith, done.behind, long_same);
         size = omega (arith, done.behind);
       }
+
+-- the lengths of the fields
+pub ruleset lengths = (revision_two, angles_few, rights_many, room_is)

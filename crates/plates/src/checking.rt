@@ -21,7 +21,7 @@ pub struct Sound {
     pub ours: bool,
 }
 
-// Have two shapes the same angles and right bends?
+// Have two shapes the same angles and right bends? A function of its own: an `&&` in the struct that holds it would leave two ways to prove.
 fn is_same(ours: Counts, theirs: Counts) -> bool
     ensures { result ≡ (same ours.entry.angles.now theirs.entry.angles.now && same ours.entry.rights.now theirs.entry.rights.now) }
 {
@@ -30,12 +30,15 @@ fn is_same(ours: Counts, theirs: Counts) -> bool
 
 impl ShapeFile<'_> {
     /// The check's refusal, if any: 19 to 22, 25.
+    #[tactic(auto, using(crate::proofs::CheckCounts::steps))]
     pub fn check(&self) -> Result<(), Refusal>
         ensures { fault_of result ≡ check_fault self.now.list.bytes.now self.now.bytes.now }
     {
         judge(self.list.plate, self.counts)?;
+        let said = number(self.total);
         // `as`: usize has no From of u32.
-        if number(self.total) != self.counts.total() as usize {
+        let bends = self.counts.total() as usize;
+        if said != bends {
             return Err(Refusal::TotalDiffers);
         }
         if !limits_ok(self.list.limits(), self.counts) {

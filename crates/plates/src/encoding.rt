@@ -17,14 +17,16 @@ pub struct Written {
 }
 
 impl PlateList<'_> {
-    /// The length of the list's shape file.
-    pub fn file_long(&self) -> usize
+    // The length of the list's shape file.
+    #[tactic(auto, using(crate::proofs::HeldLists::long_is))]
+    fn file_long(&self) -> usize
         ensures { result ≡ file_long self.now.bytes.now }
     {
         16 + 2 * self.plate.darts
     }
 
     // Writes the shape file of these counts, and gives its length.
+    #[tactic(auto, using(crate::proofs::FileRows::lengths))]
     fn write_fields(&self, counts: Counts, out: &mut [u8]) -> usize
         requires given { FileGiven self.now.plate.darts counts.angles.now counts.rights.now }
         requires enough { file_long self.now.bytes.now ≤ length out.old }

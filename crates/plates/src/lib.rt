@@ -23,7 +23,7 @@ pub mod listing;
 pub mod reading;
 
 impl PlateList<'_> {
-    /// The best shape within the list's limits, if some shape keeps them.
+    /// The best shape within the list's limits, if some shape keeps them. (`shapes::best` has no limits, and so always a shape.)
     pub fn best(&self) -> Option<BestShape>
         ensures { Answers (plate_of self.now.bytes.now) (rates (limits_of self.now.bytes.now) []) result }
     {
@@ -37,6 +37,8 @@ impl PlateList<'_> {
         )
     }
 }
+
+// In the calls below `list`, `shape` and `out` stay beside each other: they are files, and memory for one, which C gives as they are.
 
 /// Writes the best shape of a plate list to the front of lent memory, or
 /// refuses with the list's number, 24 or 16 and changes nothing.

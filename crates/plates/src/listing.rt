@@ -1,6 +1,6 @@
 //! The listing of a plate list: "refused N", or the revision, the bends and a line for each dart.
 //
-// `out` and `at` stay beside each other, for the reason that `fields::writing` gives.
+// `out` stays beside `at` and beside what is written, for the reason that `fields::writing` gives.
 ghost use Rattle.std.specs.Prelude.{◌≡◌, true, ◌+◌, ◌≤◌, length};
 ghost use Rattle.refusals.specs.Numbers.{number_of};
 ghost use Rattle.fields.specs.Writing.{Written, all_bytes};
@@ -14,11 +14,13 @@ use refusals::Refusal;
 use shapes::counts::Counts;
 
 // Writes a decimal number from `at` on, and gives the place behind it.
+#[tactic(auto, using(crate::proofs::ListingText::decimal_one_long, crate::proofs::ListingText::decimal_more_long))]
 pub fn write_decimal(n: usize, out: &mut [u8], at: usize) -> usize
     requires { at + length (decimal n) ≤ length out.old }
     ensures { Written at (decimal n) out.old out.new result }
 {
-    let last = (48 + n % 10) as u8;
+    // `as`: a digit fits a byte, and `u8::try_from` would test it again.
+    let last = b'0' + (n % 10) as u8;
     if n < 10 {
         out[at] = last;
         return at + 1;
@@ -29,7 +31,7 @@ pub fn write_decimal(n: usize, out: &mut [u8], at: usize) -> usize
 }
 
 // Writes a text from `at` on, and gives the place behind it.
-fn write_text(out: &mut [u8], at: usize, text: &[u8]) -> usize
+fn put_text(out: &mut [u8], at: usize, text: &[u8]) -> usize
     requires { at + length text.now ≤ length out.old }
     ensures { Written at text.now out.old out.new result }
 {
@@ -42,11 +44,12 @@ fn write_numbered(out: &mut [u8], at: usize, word: &[u8], n: usize) -> usize
     requires { at + length (numbered word.now n) ≤ length out.old }
     ensures { Written at (numbered word.now n) out.old out.new result }
 {
-    let digits = write_text(out, at, word);
+    let digits = put_text(out, at, word);
     write_decimal(n, out, digits)
 }
 
 // Writes a word and a number as the end of a line.
+#[tactic(auto, using(crate::proofs::ListingRows::numbered_long, crate::proofs::ListingRows::line_long, crate::proofs::ListingRows::line_written))]
 fn write_line(out: &mut [u8], at: usize, word: &[u8], n: usize) -> usize
     requires { at + length (line word.now n) ≤ length out.old }
     ensures { Written at (line word.now n) out.old out.new result }
@@ -102,6 +105,7 @@ fn give_text(text: &[u8], out: &mut [u8]) -> Result<usize, Refusal>
 }
 
 // The listing of a refused list.
+#[tactic(auto, using(crate::proofs::ListingShort::refused_short))]
 pub(crate) fn list_refused(refusal: Refusal, out: &mut [u8]) -> Result<usize, Refusal>
     ensures { Gives (refused_text (number_of refusal)) out.old out.new (listed_of result) }
 {
@@ -114,6 +118,7 @@ pub(crate) fn list_refused(refusal: Refusal, out: &mut [u8]) -> Result<usize, Re
 
 impl PlateList<'_> {
     // The listing of an accepted list, from the counts of its best shape.
+    #[tactic(auto, using(crate::proofs::ListingSaid::listing_room))]
     pub(crate) fn list_counts(&self, counts: Counts, out: &mut [u8]) -> Result<usize, Refusal>
         requires bytes { all_bytes self.now.bytes.now ≡ true }
         requires best { BestCounts self.now.bytes.now counts.angles.now counts.rights.now }

@@ -53,6 +53,7 @@ impl<'a> PlateList<'a> {
 }
 
 // Are the limits of bends, where the list has them, one for each strip?
+#[tactic(auto, using(crate::proofs::HeldLists::some_fit, crate::proofs::HeldLists::none_fit))]
 fn limits_fit(fields: ListFields) -> bool
     ensures { (fs : List Field) → ListFieldsOf fs fields.entry → result ≡ limits_fit fs }
 {
@@ -63,6 +64,7 @@ fn limits_fit(fields: ListFields) -> bool
 }
 
 /// The list, or its refusal.
+#[tactic(auto, using(crate::proofs::HeldLists::contents_lengths))]
 pub fn read_list(bytes: &[u8]) -> Result<PlateList<'_>, Refusal>
     ensures { (fault_of result ≡ list_fault bytes.now) × IfOk result (λ list. list.bytes.now ≡ bytes.now) }
 {

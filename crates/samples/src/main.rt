@@ -1,4 +1,5 @@
-//! Shapes and checks small plates, converts their shapes to text and back, and prints a line for each. The expected lines were worked out by hand from document 01.
+//! Shapes and checks small plates, converts their shapes to text and back, and prints a line for each. The expected
+//! lines were worked out by hand from document 01.
 //! A line of shaping: the label, the number, and with 0 the length, the bends and the bytes; then how many bytes behind the
 //! shape, or with a refusal in the whole memory, are as they were lent. A line of checking: the label, the number, and with
 //! 0 the total, the fewest and whether the shape is the one that shaping writes. A line of text: a shape file converted to
@@ -39,11 +40,19 @@ fn say_refused(rt: &impl Print, refusal: Refusal, memory: &[u8]) -> io::Result<(
     say_untouched(rt, "memory", memory)
 }
 
-// Writes what shaping answers and what it left in the memory, which was filled with 0xee.
-fn say_shaped(rt: &impl Print, shaped: Result<Written, Refusal>, memory: &[u8]) -> io::Result<()> {
+// Writes the line of shaping or of back, by its answer and what it left in the memory, which was filled with 0xee.
+fn say_shaped(
+    rt: &impl Print,
+    kind: &str,
+    label: &str,
+    shaped: Result<Written, Refusal>,
+    memory: &[u8],
+) -> io::Result<()> {
+    print!(rt; "{kind} {label}")?;
     match shaped {
         Ok(Written { long, bends }) => {
             print!(rt; ": 0 length {long} bends {bends} bytes")?;
+            // `as`: usize has no From of u32.
             let (shape, behind) = memory.split_at(memory.len().min(long as usize));
             say_bytes(rt, shape)?;
             say_untouched(rt, "behind", behind)
@@ -54,8 +63,7 @@ fn say_shaped(rt: &impl Print, shaped: Result<Written, Refusal>, memory: &[u8]) 
 
 fn shape_into(rt: &impl Print, label: &str, list: &[u8], memory: &mut [u8]) -> io::Result<()> {
     let shaped = write_shape(list, memory);
-    print!(rt; "shape {label}")?;
-    say_shaped(rt, shaped, memory)
+    say_shaped(rt, "shape", label, shaped, memory)
 }
 
 fn shape(rt: &impl Print, label: &str, list: &[u8]) -> io::Result<()> {
@@ -863,7 +871,7 @@ fn ring_post(mut list: [u8; 614], v: u8) -> [u8; 614]
 {
     let next = (v + 1) % 64;
     let before = (v + 63) % 64;
-    let at = 4 * (v as usize);
+    let at = 4 * usize::from(v);
     list[12 + at] = v;
     list[13 + at] = next;
     list[14 + at] = v;
@@ -894,19 +902,7 @@ fn ring_of_64(rt: &impl Print) -> io::Result<()> {
     shape_into(rt, "ring of 64", &list, &mut memory)
 }
 
-// Writes what the conversion to text answers and what it left in the memory, and the text.
-fn say_listed(rt: &impl Print, listed: Result<usize, Refusal>, memory: &[u8]) -> io::Result<()> {
-    match listed {
-        Ok(long) => {
-            print!(rt; ": 0 length {long}")?;
-            let (text, behind) = memory.split_at(memory.len().min(long));
-            say_untouched(rt, "behind", behind)?;
-            rt.write_all(text)
-        }
-        Err(refusal) => say_refused(rt, refusal, memory),
-    }
-}
-
+// Converts a shape file to its text. Three slices, as the call that is tried takes them.
 fn text_into(
     rt: &impl Print,
     label: &str,
@@ -916,7 +912,15 @@ fn text_into(
 ) -> io::Result<()> {
     let listed = write_text(list, shape, memory);
     print!(rt; "text {label}")?;
-    say_listed(rt, listed, memory)
+    match listed {
+        Ok(long) => {
+            print!(rt; ": 0 length {long}")?;
+            let (text, behind) = memory.split_at(memory.len().min(long));
+            say_untouched(rt, "behind", behind)?;
+            rt.write_all(text)
+        }
+        Err(refusal) => say_refused(rt, refusal, memory),
+    }
 }
 
 fn text(rt: &impl Print, label: &str, list: &[u8], shape: &[u8]) -> io::Result<()> {
@@ -933,6 +937,7 @@ fn text_p1(rt: &impl Print, label: &str, shape: &[u8]) -> io::Result<()> {
     )
 }
 
+// Converts a text to its shape file. Three slices, as the call that is tried takes them.
 fn back_into(
     rt: &impl Print,
     label: &str,
@@ -941,8 +946,7 @@ fn back_into(
     memory: &mut [u8],
 ) -> io::Result<()> {
     let shaped = read_text(list, text, memory);
-    print!(rt; "back {label}")?;
-    say_shaped(rt, shaped, memory)
+    say_shaped(rt, "back", label, shaped, memory)
 }
 
 fn back(rt: &impl Print, label: &str, list: &[u8], text: &[u8]) -> io::Result<()> {

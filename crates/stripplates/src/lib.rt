@@ -1,4 +1,7 @@
 //! The library for C and Rust: what a struct or an enum answers is a number returned and numbers behind references.
+//
+// Files, memory and the numbers behind references stay beside each other, and functions of one form are not made one: each is a name of the C
+// interface, and these are its parameters.
 #![tactic(auto)]
 
 ghost use Rattle.std.specs.Prelude.{◌≡◌};
@@ -137,7 +140,8 @@ pub extern "C" fn plates_order_fields(file: &[u8], out: &mut [u8], long: &mut us
     give_length(order_fields(file, out), long)
 }
 
-// A step of the editor: a strip ends at a new post, and a new strip runs from there to its old end. The refusal's number, or 0 with the list after the step at the front of `out` and its length.
+// A step of the editor: a strip ends at a new post, and a new strip runs from there to its old end. The refusal's number, or 0 with the list
+// after the step at the front of `out` and its length.
 #[unsafe(no_mangle)]
 pub extern "C" fn plates_split_strip(
     list: &[u8],

@@ -20,7 +20,7 @@ use Rattle.plates.specs.Shapes.{rights, lefts, same_b}
 use Rattle.plates.specs.Text.{Entry, entry}
 use Rattle.plates.specs.Lines.{is_mixed, some_mixed, same_faces, word_of, angle_of, darts_of}
 use Rattle.texts.specs.Plan.{laid}
-use Rattle.texts.specs.Parses.{capped, GotIs, left_behind, Tables, FilledBy, IsPlan}
+use Rattle.texts.specs.Parses.{capped, held, left_behind, Tables, ReadSoFar, IsPlan}
 use Rattle.texts.specs.declared.planning.Turn.{Turn}
 use Rattle.texts.specs.declared.entries.Entry.{Entry as Held}
 use Rattle.texts.specs.declared.parsing.Counted.{Counted}
@@ -143,18 +143,18 @@ other_ends false true n = refl
 other_ends false false n = absurd (n refl)
 
 -- an entry taken
-module _ {plan es : List Entry} (x : Entry) {e : Held} {left : Option (List Entry)} {c : Counted} (once : IsPlan plan) (is : GotIs x e) (filled : FilledBy plan es left c) where
+module _ {plan es : List Entry} (x : Entry) {e : Held} {left : Option (List Entry)} {c : Counted} (once : IsPlan plan) (is : e ≡ held x) (filled : ReadSoFar plan es left c) where
   then_left : left_behind (es ++ (x ∷ [])) plan ≡ option_and_then (left_behind (x ∷ [])) left
   then_left = left_more es plan x ∙ ap (option_and_then (left_behind (x ∷ []))) (sym filled.left_is)
 
-  nothing_left : left_behind (es ++ (x ∷ [])) plan ≡ None → FilledBy plan (es ++ (x ∷ [])) None c
+  nothing_left : left_behind (es ++ (x ∷ [])) plan ≡ None → ReadSoFar plan (es ++ (x ∷ [])) None c
   nothing_left n = record { left_is = sym n; tables = λ xs z. absurd (cc) }
 
   -- not the plan's, since an entry before was not, or since nothing of it is left
-  pub taken_late : left ≡ None → FilledBy plan (es ++ (x ∷ [])) None c
+  pub taken_late : left ≡ None → ReadSoFar plan (es ++ (x ∷ [])) None c
   taken_late n = nothing_left (then_left ∙ ap (option_and_then (left_behind (x ∷ []))) n)
 
-  pub taken_behind : (ts : List Turn) → length ts ≡ 0 → left ≡ Some (laid ts) → FilledBy plan (es ++ (x ∷ [])) None c
+  pub taken_behind : (ts : List Turn) → length ts ≡ 0 → left ≡ Some (laid ts) → ReadSoFar plan (es ++ (x ∷ [])) None c
   taken_behind [] z n = nothing_left (then_left ∙ ap (option_and_then (left_behind (x ∷ []))) n)
   taken_behind (t ∷ ts) z n = absurd (omega arith)
 
@@ -169,13 +169,13 @@ module _ {plan es : List Entry} (x : Entry) {e : Held} {left : Option (List Entr
     last_is = ap (λ (h : Held). h.last) is
 
     -- not the plan's
-    pub other_dart : (e.dart ≡ d → ⊥) → FilledBy plan (es ++ (x ∷ [])) None c
+    pub other_dart : (e.dart ≡ d → ⊥) → ReadSoFar plan (es ++ (x ∷ [])) None c
     other_dart n = nothing_left (by_test ∙ ap (λ (b : Bool). pick (b && same_b x.ends t.last) (Some (laid rest)) None) (ne_eqb x.dart t.dart (λ z. n (omega (arith, dart_is, d-is, z)))))
 
-    pub other_end : e.dart ≡ d → (e.last ≡ t.last → ⊥) → FilledBy plan (es ++ (x ∷ [])) None c
+    pub other_end : e.dart ≡ d → (e.last ≡ t.last → ⊥) → ReadSoFar plan (es ++ (x ∷ [])) None c
     other_end q n = nothing_left (by_test ∙ (λ i. pick (eq-eqb x.dart t.dart (omega (arith, dart_is, d-is, q)) i && other_ends x.ends t.last (λ z. n (last_is ∙ z)) i) (Some (laid rest)) None))
 
-    pub taken_planned : e.dart ≡ d → e.last ≡ t.last → FilledBy plan (es ++ (x ∷ [])) (Some (laid rest)) (record { angles = set c.angles d e.angle; rights = set c.rights d e.right; lefts = set c.lefts d e.left })
+    pub taken_planned : e.dart ≡ d → e.last ≡ t.last → ReadSoFar plan (es ++ (x ∷ [])) (Some (laid rest)) (record { angles = set c.angles d e.angle; rights = set c.rights d e.right; lefts = set c.lefts d e.left })
     taken_planned q z =
         let same : x.dart ≡ t.dart = omega (arith, dart_is, d-is, q) in
         record {
@@ -192,7 +192,7 @@ module _ {plan es : List Entry} (x : Entry) {e : Held} {left : Option (List Entr
 nothing_table : Table 256 (λ d. 0) (replicate 256 0)
 nothing_table = record { size = length-replicate {A = ℕ} 256 0; at = λ i l. get_or-replicate {A = ℕ} 256 i 0 0 l }
 
-pub nothing_filled : (plan : List Entry) → FilledBy plan [] (Some plan) (record { angles = replicate 256 0; rights = replicate 256 0; lefts = replicate 256 0 })
+pub nothing_filled : (plan : List Entry) → ReadSoFar plan [] (Some plan) (record { angles = replicate 256 0; rights = replicate 256 0; lefts = replicate 256 0 })
 nothing_filled plan = record {
   left_is = refl;
   tables = λ xs z. record { angles = nothing_table; rights = nothing_table; lefts = nothing_table };

@@ -5,7 +5,7 @@ use Prim.Native.Nat.{ℕ, ◌+◌, ◌≤◌, ◌<◌}
 use native.Mathlib.Numerals.{add-one}
 use native.Mathlib.Omega.{arith}
 use lib.ListN.{length, get_or, take, drop, length-append, take-append-drop}
-use lib.Seq.{take-suc, take_all}
+use lib.Seq.{take-suc}
 use Rattle.finite.specs.Walks.{orbit}
 use Rattle.embedding.specs.Steps.{next_of}
 use Rattle.embedding.specs.Read.{meant, lead, place_of, face_number}
@@ -20,7 +20,7 @@ use Rattle.shapes.proofs.HeldPlate.{faces_are}
 use Rattle.plates.specs.Plates.{Plate, darts, face_of, faces}
 use Rattle.plates.specs.Text.{Entry}
 use Rattle.plates.specs.Lines.{without, sequence, line, lines}
-use Rattle.texts.specs.Plan.{laid, FaceRoom, FaceLaid, NumberFits, NumberLaid, OuterIs, Laying, PlanHeld}
+use Rattle.texts.specs.Plan.{laid, FaceRoom, FaceLaid, NumberFits, NumberLaid, OuterIs, Laying}
 use Rattle.texts.specs.declared.planning.Turn.{Turn}
 use Rattle.texts.proofs.Without.{without_append, without_same, without_other}
 use Rattle.texts.proofs.Around.{plan_many}
@@ -166,6 +166,3 @@ module _ (h : Held) {outer d : ℕ} (outer_is : outer ≡ get_or h.face d 0) (d-
 
     pub face_more : (k ≡ outer → ⊥) → (r : List Turn) → NumberLaid (meant h) k q r → Laying (meant h) (k + 1) r
     face_more n r z = laying_more p h.accepted outer k outer_number (there l) n q r y z
-
-  pub faces_done : {k : ℕ} (q : List Turn) → h.faces ≤ k → Laying (meant h) k q → PlanHeld (meant h) q
-  faces_done {k} q l y = y ∙ ap (λ (x : List ℕ). lines p [] [] (lead p p.outer ∷ without (lead p p.outer) x)) (take_all k (faces p) (omega (arith, h.stands.face_count)))

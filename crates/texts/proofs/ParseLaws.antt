@@ -7,7 +7,7 @@ use native.Mathlib.Omega.{arith}
 use lib.Dec.{eqb, ltb}
 use lib.ListN.{length}
 use borrow.Author.Tests.{ne_eqb}
-use Rattle.std.specs.Prelude.{Option, Some, None, Ok, Err}
+use Rattle.std.specs.Prelude.{Option, Some, None, Result, Ok, Err}
 use Rattle.refusals.specs.Numbers.{number_of}
 use Rattle.refusals.specs.declared.Refusal.{Refusal}
 use Rattle.refusals.specs.declared.Refusal.TheVariants.{TextForm, MixedWord, TextFaces}
@@ -16,11 +16,11 @@ use Rattle.plates.specs.Text.{Entry}
 use Rattle.plates.specs.Grammar.{entry_ok, entry_in, behind, form_from, entries_from, form_ok, entries_in}
 use Rattle.plates.specs.Lines.{some_mixed, same_faces}
 use Rattle.texts.specs.Plan.{laid}
-use Rattle.texts.specs.Parses.{held, GotIs, IsPlan, entry_read, TablesOf, FilledBy, entries_fault, ParsedBy}
+use Rattle.texts.specs.Parses.{held, IsPlan, entry_read, TablesOf, ReadSoFar, entries_fault, ParsedBy}
 use Rattle.texts.specs.declared.planning.Turn.{Turn}
 use Rattle.texts.specs.declared.entries.Entry.{Entry as Held}
 use Rattle.texts.specs.declared.parsing.Counted.{Counted}
-use Rattle.texts.proofs.ScanLaws.{picked, behind_shorter}
+use Rattle.texts.proofs.ScanLaws.{picked, unpicked, behind_shorter}
 use Rattle.texts.proofs.FillLaws.{mixed_more, none_left, same_left}
 
 -- the rest of the text t, behind the entries read so far
@@ -31,9 +31,9 @@ pub record Parsing (plan : List Entry) (t : List ℕ) (c : Counted) (left : Opti
   pub entries : done ++ entries_from fuel rest ≡ entries_in t
   pub enough : length rest < fuel
   pub mixed_is : mixed ≡ some_mixed done
-  pub filled : FilledBy plan done left c
+  pub filled : ReadSoFar plan done left c
 
-pub parsing_start : (plan : List Entry) (t : List ℕ) {c : Counted} → FilledBy plan [] (Some plan) c → Parsing plan t c (Some plan) false true t
+pub parsing_start : (plan : List Entry) (t : List ℕ) {c : Counted} → ReadSoFar plan [] (Some plan) c → Parsing plan t c (Some plan) false true t
 parsing_start plan t filled = record {
   done = [];
   fuel = suc (length t);
@@ -66,11 +66,7 @@ module _ {plan : List Entry} {t : List ℕ} {c : Counted} {left : Option (List E
         ap (λ (x : List Entry). h.done ++ x) (sym (ap (λ (k : ℕ). entries_from k s) opened.1 ∙ ap (λ (b : Bool). pick b [] (entry_in s ∷ entries_from opened.0 (behind s))) some_left)) ∙ h.entries
 
     pub no_form : entry_read s ≡ None → form_ok t ≡ false
-    no_form n = sym step_form ∙ ap (λ (b : Bool). b && form_from opened.0 (entry_in s).ends (behind s)) (none (entry_ok s) _ n)
-      where
-        none : {A : Type 0} (b : Bool) (x : A) → pick b (Some x) None ≡ None → b ≡ false
-        none true x e = absurd (cc)
-        none false x e = refl
+    no_form n = sym step_form ∙ ap (λ (b : Bool). b && form_from opened.0 (entry_in s).ends (behind s)) (unpicked (entry_ok s) _ n)
 
     module _ {e : Held} {rest : List ℕ} (read : entry_read s ≡ Some (e, rest)) where
       ok : entry_ok s ≡ true
@@ -86,10 +82,10 @@ module _ {plan : List Entry} {t : List ℕ} {c : Counted} {left : Option (List E
       rest_shorter = subst (λ (l : List ℕ). length l < length s) rest_is (behind_shorter s ok)
 
       -- what the code takes the entry for
-      pub taken : {left' : Option (List Entry)} {c' : Counted} → ((plan es : List Entry) (x : Entry) → IsPlan plan → GotIs x e → FilledBy plan es left c → FilledBy plan (es ++ (x ∷ [])) left' c') → IsPlan plan → FilledBy plan (h.done ++ (entry_in s ∷ [])) left' c'
+      pub taken : {left' : Option (List Entry)} {c' : Counted} → ((plan es : List Entry) (x : Entry) → IsPlan plan → e ≡ held x → ReadSoFar plan es left c → ReadSoFar plan (es ++ (x ∷ [])) left' c') → IsPlan plan → ReadSoFar plan (h.done ++ (entry_in s ∷ [])) left' c'
       taken more once = more plan h.done (entry_in s) once (sym e-is) h.filled
 
-      pub parsing_more : {left' : Option (List Entry)} {c' : Counted} {both mixed' : Bool} → FilledBy plan (h.done ++ (entry_in s ∷ [])) left' c' → both ≡ (ltb 0 e.right && ltb 0 e.left) → mixed' ≡ (mixed || both) → Parsing plan t c' left' mixed' e.last rest
+      pub parsing_more : {left' : Option (List Entry)} {c' : Counted} {both mixed' : Bool} → ReadSoFar plan (h.done ++ (entry_in s ∷ [])) left' c' → both ≡ (ltb 0 e.right && ltb 0 e.left) → mixed' ≡ (mixed || both) → Parsing plan t c' left' mixed' e.last rest
       parsing_more filled both-is mixed-is = record {
         done = h.done ++ (entry_in s ∷ []);
         fuel = opened.0;
@@ -142,8 +138,8 @@ module _ {plan : List Entry} {t : List ℕ} {c : Counted} {left : Option (List E
         other_faces : none_left left ≡ false → ParsedBy plan t (Err TextFaces)
         other_faces n = refused refl (past_words ∙ ap (λ (b : Bool). when (not b) 32) n)
 
-        pub not_first : left ≡ None → ParsedBy plan t (Err TextFaces)
-        not_first n = other_faces (ap none_left n)
+        pub not_first : {r : Result Counted Refusal} → r ≡ Err TextFaces → left ≡ None → ParsedBy plan t r
+        not_first e n = subst (ParsedBy plan t) (sym e) (other_faces (ap none_left n))
 
         pub some_unread : (ts : List Turn) → (length ts ≡ 0 → ⊥) → left ≡ Some (laid ts) → ParsedBy plan t (Err TextFaces)
         some_unread [] l n = absurd (l refl)
@@ -157,8 +153,10 @@ module _ {plan : List Entry} {t : List ℕ} {c : Counted} {left : Option (List E
         }
 
 -- a text that is not of the form
-pub form-refused : {plan : List Entry} {t : List ℕ} → form_ok t ≡ false → ParsedBy plan t (Err TextForm)
-form-refused {plan} {t} n = record {
-  number = sym (ap (λ (b : Bool). first_of (when (not b) 30) (first_of (when (some_mixed (entries_in t)) 31) (when (not (same_faces (entries_in t) plan)) 32))) n);
-  tables = tt;
-}
+pub form_refused : {plan : List Entry} {t : List ℕ} {r : Result Counted Refusal} → r ≡ Err TextForm → form_ok t ≡ false → ParsedBy plan t r
+form_refused {plan} {t} e n =
+    subst (ParsedBy plan t) (sym e)
+    (record {
+      number = sym (ap (λ (b : Bool). first_of (when (not b) 30) (first_of (when (some_mixed (entries_in t)) 31) (when (not (same_faces (entries_in t) plan)) 32))) n);
+      tables = tt;
+    })

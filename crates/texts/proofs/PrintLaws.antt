@@ -79,8 +79,8 @@ some_word_long r l n e z =
       length-replicate {A = ℕ} l 49,
     )
 
-pub right-word : (r l : ℕ) → min r l ≡ 0 → (r ≡ 0 → ⊥) → word_text (even_word r l) ≡ replicate r 48
-right-word r l m n =
+pub right_word : (r l : ℕ) → min r l ≡ 0 → (r ≡ 0 → ⊥) → word_text (even_word r l) ≡ replicate r 48
+right_word r l m n =
     let e : l ≡ 0 = omega arith in
     some_digits r l (λ z. n (omega arith)) ∙ ap (λ (k : ℕ). replicate r 48 ++ replicate k 49) e ∙ append-nil (replicate r 48)
 

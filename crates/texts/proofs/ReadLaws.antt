@@ -249,3 +249,6 @@ module _ (l : PlateList) {s : List ℕ} (bytes : l.bytes.now ≡ s) (t o : List 
             → ReadSays s t o o' v
         go true e h = subst (λ (k : ℕ). ReadWith k s t o o' v) (sym (fault_is ∙ ap (λ (b : Bool). when b 16) e)) h
         go false e h = subst (λ (k : ℕ). ReadWith k s t o o' v) (sym (fault_is ∙ ap (λ (b : Bool). when b 16) e)) h
+
+-- what the call's steps give
+pub ruleset steps = (list_refused_read, plan_once, file_read)

@@ -37,11 +37,6 @@ run_taken t s = length-prefix_len t s ∙ same_run s
     same_run [] = refl
     same_run (x ∷ xs) = one (t x) (same_run xs)
 
--- a number above the cap stays above it
-number_least : (acc : ℕ) (xs : List ℕ) → acc ≤ number_of acc xs
-number_least acc [] = omega arith
-number_least acc (x ∷ xs) = omega (arith, number_least (10 * acc + (x - 48)) xs)
-
 -- a number is folded as its digits come, and no further than the cap
 abbrev pub add_digit : ℕ → ℕ → ℕ
 add_digit n x = min (min (min (n * 10) (2 ^ 64 - 1) + (x - 48)) (2 ^ 64 - 1)) 1000
@@ -65,6 +60,10 @@ zeros_counted xs = sym (is_count_by (λ l. rights (bends l)) (λ x. eqb x 48) re
 pub picked : {A : Type 0} (b : Bool) {x y : A} → pick b (Some x) None ≡ Some y → (b ≡ true) × (x ≡ y)
 picked true e = (refl, cc)
 picked false e = absurd (cc)
+
+pub unpicked : {A : Type 0} (b : Bool) (x : A) → pick b (Some x) None ≡ None → b ≡ false
+unpicked true x e = absurd (cc)
+unpicked false x e = refl
 
 -- a space behind n bytes
 space_behind : (s : List ℕ) (n : ℕ) {rest : List ℕ} → space_read (drop n s) ≡ Some rest → (eqb (get_or s n 0) 32 ≡ true) × (rest ≡ drop (suc n) s)
@@ -105,12 +104,8 @@ module _ (s : List ℕ) {dart right left : ℕ} {u v : List ℕ} (number : numbe
   no_angle e =
       let n = (picked (number_ok s) number).0 in
       let w : word_ok (from_word s) ≡ true = ap word_ok (sym from_word_is) ∙ (picked (word_ok u) word).0 in
-      let a : angle_ok (from_angle s) ≡ false = ap angle_ok (sym from_angle_is) ∙ none (angle_ok v) _ e in
+      let a : angle_ok (from_angle s) ≡ false = ap angle_ok (sym from_angle_is) ∙ unpicked (angle_ok v) _ e in
       (λ i. pick (n i && (w i && a i)) (Some (held (entry_in s), behind s)) None)
-    where
-      none : {A : Type 0} (b : Bool) (x : A) → pick b (Some x) None ≡ None → b ≡ false
-      none true x e = absurd (cc)
-      none false x e = refl
 
 -- the text behind an entry is shorter
 pub behind_shorter : (s : List ℕ) → entry_ok s ≡ true → length (behind s) < length s

@@ -1,21 +1,21 @@
 -- What writing a text promises, from what its steps give: the list's refusal, the file's, the counts', 31, 16, or the text. Assumes nothing.
 use mathlib.Core.Path.{◌≡◌, refl, sym, ap, subst, ◌∙◌}
-use mathlib.Core.Bool.{Bool, true, false, ◌&&◌, not}
+use mathlib.Core.Bool.{Bool, true, false, not}
 use mathlib.Core.List.{List}
 use Prim.Native.Nat.{ℕ, zero, suc}
-use lib.Dec.{eqb, ltb}
+use lib.Dec.{ltb}
 use lib.ListN.{length}
-use borrow.Author.Tests.{not-false, eqb-true}
+use borrow.Author.Tests.{not-false}
 use Rattle.std.specs.Prelude.{Result, Err}
-use Rattle.finite.proofs.Tests.{and_left, first_none, when_none, first_some}
+use Rattle.finite.proofs.Tests.{first_none, when_none, first_some}
 use Rattle.refusals.specs.Numbers.{number_of}
 use Rattle.refusals.specs.declared.Refusal.{Refusal}
 use Rattle.refusals.specs.declared.Refusal.TheVariants.{MixedWord}
 use Rattle.refusals.proofs.Numbered.{some_number}
 use Rattle.shapes.specs.Judge.{judgement}
-use Rattle.plates.specs.Plates.{pick_t, first_of, when, darts}
+use Rattle.plates.specs.Plates.{pick_t, first_of, when}
 use Rattle.plates.specs.Shapes.{angles_ok, shape_of}
-use Rattle.plates.specs.Files.{walk_all, list_fault, plate_of}
+use Rattle.plates.specs.Files.{list_fault, plate_of}
 use Rattle.plates.specs.Says.{over, angles_in, rights_in, check_fault}
 use Rattle.plates.specs.Read.{shape_file_fault}
 use Rattle.plates.specs.Listing.{Gives}
@@ -72,17 +72,6 @@ module _ (s t o : List ℕ) where
         go true e h = subst (λ (k : ℕ). WriteWith k s t o o' r) (sym (fault_is ∙ ap (λ (b : Bool). when b 16) e)) h
         go false e h = subst (λ (k : ℕ). WriteWith k s t o o' r) (sym (fault_is ∙ ap (λ (b : Bool). when b 16) e)) h
 
--- a shape file that was read has an angle for each dart
-pub counts_many : (f : ShapeFile) → length f.counts.angles.now ≡ f.list.plate.darts
-counts_many f =
-    let l = f.list in
-    let p = plate_of l.bytes.now in
-    let a = angles_in f.bytes.now in
-    let r = rights_in f.bytes.now in
-    let both = eqb (length a) (darts p) && eqb (length r) (darts p) in
-    let many = not-false both (when_none (not both) 16 (first_none (when (not both) 17) _ (first_none (walk_all true f.bytes.now).number _ f.accepted).1).0) in
-    ap length f.angles ∙ eqb-true (length a) (darts p) (and_left (eqb (length a) (darts p)) _ many) ∙ ap darts (sym l.table) ∙ sym l.plate.stands.dart_count
-
 -- a shape file of bytes t, read for the list of bytes s, past the check
 module _ (f : ShapeFile) {s t : List ℕ} (list : f.list.bytes.now ≡ s) (bytes : f.bytes.now ≡ t) (fault : 0 ≡ check_fault f.list.bytes.now f.bytes.now) where
   sound : check_fault s t ≡ 0
@@ -119,3 +108,6 @@ module _ (f : ShapeFile) {s t : List ℕ} (list : f.list.bytes.now ≡ s) (bytes
       text_said o o' v give =
           text_written s t o sound o' v (ways ∙ one)
           (subst (λ (x : List ℕ). Gives x o o' v) (λ i. face_text (table i) (angles_are i) (shape_of (table i) (angles_are i) (rights_are i)).words) give)
+
+-- what the call's steps give
+pub ruleset steps = (list_refused_write, both_refused, counts_straight, text_said)

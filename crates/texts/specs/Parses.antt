@@ -20,11 +20,7 @@ use Rattle.texts.specs.declared.parsing.Counted.{Counted}
 abbrev pub capped : ℕ → ℕ
 capped n = min n 1000
 
--- what a reader gives, seen by view: nothing, or a value and the rest of the text
-abbrev pub Gives : {X Y : Type 0} → (X → Y) → Option X → Option Y → Type 0
-Gives view None read = read ≡ None
-Gives view (Some x) read = read ≡ Some (view x)
-
+-- what is read at the front of a text: nothing, or a value and the rest of the text
 abbrev pub space_read : List ℕ → Option (List ℕ)
 space_read s = pick (eqb (get_or s 0 0) 32) (Some (drop 1 s)) None
 
@@ -40,9 +36,6 @@ angle_read s = pick (angle_ok s) (Some (get_or s 0 0 - 48, eqb (get_or s 1 0) 10
 -- an entry as the code holds it
 abbrev pub held : Entry → Held
 held x = record { dart = capped x.dart; right = rights x.word; left = lefts x.word; angle = x.angle; last = x.ends }
-
-abbrev pub GotIs : Entry → Held → Type 0
-GotIs x r = r ≡ held x
 
 abbrev pub entry_read : List ℕ → Option (Held × List ℕ)
 entry_read s = pick (entry_ok s) (Some (held (entry_in s), behind s)) None
@@ -66,7 +59,7 @@ pub record Tables (es : List Entry) (a r l : List ℕ) : Type 0 where
 abbrev pub TablesOf : List Entry → Counted → Type 0
 TablesOf es c = Tables es c.angles c.rights c.lefts
 
-pub record FilledBy (plan es : List Entry) (left : Option (List Entry)) (c : Counted) : Type 0 where
+pub record ReadSoFar (plan es : List Entry) (left : Option (List Entry)) (c : Counted) : Type 0 where
   pub left_is : left ≡ left_behind es plan
   pub tables : (xs : List Entry) → left ≡ Some xs → TablesOf es c
 

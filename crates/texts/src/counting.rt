@@ -27,7 +27,7 @@ pub fn print_counts(plate: Plate, counts: Counts, out: &mut [u8]) -> Result<usiz
     requires straight { Straight counts.angles.now counts.rights.now }
     ensures { Gives (face_text (meant plate) counts.entry.angles.now (shape_of (meant plate) counts.entry.angles.now counts.entry.rights.now).words) out.old out.new (listed_of result) }
 {
-    let long = text_long(counts.rights);
+    let long = text_long(counts);
     if out.len() < long {
         return Err(Refusal::MemoryShort);
     }

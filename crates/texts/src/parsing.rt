@@ -2,7 +2,7 @@
 ghost use Rattle.std.specs.Prelude.{◌≡◌, List, ◌∷◌, [], ◌++◌, ◌&&◌, ◌%◌, ◌≤◌, ◌<◌, eqb, length, get_or, take};
 ghost use Rattle.plates.specs.Text.{Entry as EntryOf};
 ghost use Rattle.texts.specs.Plan.{laid};
-ghost use Rattle.texts.specs.Parses.{GotIs, FilledBy, IsPlan, ParsedBy, left_seen, twin_counts};
+ghost use Rattle.texts.specs.Parses.{held, ReadSoFar, IsPlan, ParsedBy, left_seen, twin_counts};
 
 use crate::entries::Entry;
 use crate::planning::Turn;
@@ -11,7 +11,8 @@ use embedding::twin_of;
 use refusals::Refusal;
 use shapes::counts::Counts;
 
-/// What a text says of each dart. Three arrays with a place for each dart that can be: the library has no heap, and lends the front of each.
+/// What a text says of each dart. Arrays with a place for each dart that can be, since the library allocates nothing; and three of them, since
+/// `Counts` lends angles and right bends as slices.
 #[derive(Clone, Copy)]
 pub struct Counted {
     pub angles: [u8; 256],
@@ -36,7 +37,7 @@ impl Counted {
         self.rights[t] == self.lefts[d] && self.lefts[t] == self.rights[d]
     }
 
-    /// What the text says of the first `darts` darts.
+    /// What the text says of the first `darts` darts. Only the form is that of `BestShape::counts`: each lends arrays of its own.
     pub fn counts(&self, darts: usize) -> Counts<'_>
         requires { (darts % 2 ≡ 0) × (darts ≤ 256) }
         ensures given { (result.angles.now ≡ take darts self.now.angles) × (result.rights.now ≡ take darts self.now.rights) }
@@ -55,7 +56,7 @@ fn take_entry<'a>(
     entry: Entry,
     counted: &mut Counted,
 ) -> Option<&'a [Turn]>
-    ensures { (plan es : List EntryOf) (x : EntryOf) → IsPlan plan → GotIs x entry → FilledBy plan es (left_seen left.entry) counted.old → FilledBy plan (es ++ x ∷ []) (left_seen result) counted.new }
+    ensures { (plan es : List EntryOf) (x : EntryOf) → IsPlan plan → entry ≡ held x → ReadSoFar plan es (left_seen left.entry) counted.old → ReadSoFar plan (es ++ x ∷ []) (left_seen result) counted.new }
 {
     let (turn, rest) = left?.split_first()?;
     let d = usize::from(turn.dart);

@@ -14,7 +14,7 @@ pub struct Turn {
     pub last: bool,
 }
 
-/// The turns laid so far. An array with its length: the library has no heap.
+/// The turns laid so far. An array with its length: the library allocates nothing.
 #[derive(Drop)]
 pub struct Laid {
     turns: [Turn; 256],
@@ -52,7 +52,7 @@ impl Laid {
         self.count += 1;
     }
 
-    /// The turns, as a slice.
+    /// The turns, as a slice. Only the form is that of `Replay::list`.
     pub fn turns(&self) -> &[Turn]
         ensures { result.now ≡ self.now }
     {
@@ -69,16 +69,17 @@ fn lead_of(face: &[u8], number: usize) -> usize
 }
 
 // The face of dart `start`, laid behind the others.
-fn lay_face(next: &[u8; 256], darts: usize, start: usize, plan: &mut Laid)
-    requires { FaceRoom next.now darts start plan.old }
-    ensures { FaceLaid next.now darts start plan.old plan.new }
+#[tactic(auto, using(crate::proofs::LaidLaws::walking_start, crate::proofs::LaidLaws::walking_done, crate::proofs::LaidLaws::walking_more))]
+fn lay_face(plate: &Plate, start: usize, plan: &mut Laid)
+    requires { FaceRoom plate.now.next plate.now.darts start plan.old }
+    ensures { FaceLaid plate.now.next plate.now.darts start plan.old plan.new }
 {
     let mut dart = start;
     // A loop: the face goes on from dart to dart, and ends where it comes back to its start.
     loop {
-        let after = usize::from(next[dart]);
+        let after = usize::from(plate.next[dart]);
         let last = after == start;
-        // As: a dart is below 256, so `u8::try_from` would ask for an error that there is not.
+        // `as`: a dart is below 256, so `u8::try_from` would ask for an error that there is not.
         plan.push(Turn {
             dart: dart as u8,
             last,
@@ -91,24 +92,26 @@ fn lay_face(next: &[u8; 256], darts: usize, start: usize, plan: &mut Laid)
 }
 
 // The face of a number, laid behind the others.
-fn lay_number(plate: Plate, number: usize, plan: &mut Laid)
-    requires { NumberFits (meant plate) number plan.old }
-    ensures { NumberLaid (meant plate) number plan.old plan.new }
+#[tactic(auto, using(crate::proofs::LayingLaws::number_laid))]
+fn lay_number(plate: &Plate, number: usize, plan: &mut Laid)
+    requires { NumberFits (meant plate.now) number plan.old }
+    ensures { NumberLaid (meant plate.now) number plan.old plan.new }
 {
     let start = lead_of(&plate.face, number);
-    lay_face(&plate.next, plate.darts, start, plan);
+    lay_face(plate, start, plan);
 }
 
 /// All faces laid.
+#[tactic(auto, using(crate::proofs::LayingLaws::outer_laid))]
 pub fn plan_of(plate: Plate) -> Laid
     ensures { PlanHeld (meant plate) result }
 {
     let outer = usize::from(plate.face[usize::from(plate.outer)]);
     let mut plan = Laid::new();
-    lay_number(plate, outer, &mut plan);
+    lay_number(&plate, outer, &mut plan);
     for k in 0..plate.faces {
         if k != outer {
-            lay_number(plate, k, &mut plan);
+            lay_number(&plate, k, &mut plan);
         }
     }
     plan

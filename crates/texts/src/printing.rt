@@ -1,5 +1,7 @@
 //! A text printed: the entries of a plan, with words and angles from counts.
-ghost use Rattle.std.specs.Prelude.{◌≡◌, ◌+◌, ◌%◌, ◌<◌, ◌≤◌, min, length, replicate};
+//
+// `out` stays beside `at` and beside what is written, for the reason that `fields::writing` gives.
+ghost use Rattle.std.specs.Prelude.{◌≡◌, ◌+◌, ◌<◌, ◌≤◌, min, length, replicate};
 ghost use Rattle.fields.specs.Writing.{Written};
 ghost use Rattle.plates.specs.Shapes.{even_word};
 ghost use Rattle.plates.specs.Listing.{decimal};
@@ -13,15 +15,19 @@ use embedding::twin_of;
 use plates::listing::write_decimal;
 use shapes::counts::Counts;
 
+// How long a number is.
+#[tactic(auto, using(crate::proofs::PrintLaws::digits_counted))]
 fn digits_long(n: usize) -> usize
     ensures long { result ≡ length (decimal n) }
     ensures most { result ≤ 20 }
 {
-    // As: no `From` takes a u32 to a usize.
+    // `as`: usize has no From of u32.
     n.checked_ilog10().unwrap_or(0) as usize + 1
 }
 
-fn word_long(right: u8, left: u8) -> usize
+// How long a word of right and left bends is: - is one byte.
+#[tactic(auto, using(crate::proofs::PrintLaws::word_counted))]
+fn even_word_long(right: u8, left: u8) -> usize
     ensures long { result ≡ length (word_text (even_word right left)) }
     ensures most { result ≤ 510 }
 {
@@ -29,24 +35,26 @@ fn word_long(right: u8, left: u8) -> usize
 }
 
 // How long the entry of a dart is.
-fn entry_long(rights: &[u8], d: usize) -> usize
-    requires { (d < length rights.now) × (length rights.now % 2 ≡ 0) × (length rights.now ≤ 256) }
-    ensures long { result ≡ entry_long rights.now d }
+fn entry_long(counts: Counts, d: usize) -> usize
+    requires { d < length counts.rights.now }
+    ensures long { result ≡ entry_long counts.entry.rights.now d }
     ensures most { result ≤ 600 }
 {
-    let word = word_long(rights[d], rights[twin_of(d)]);
+    let word = even_word_long(counts.rights[d], counts.rights[twin_of(d)]);
     digits_long(d) + word + 4
 }
 
 /// How long the entries of all darts are.
-pub fn text_long(rights: &[u8]) -> usize
-    requires { (length rights.now % 2 ≡ 0) × (length rights.now ≤ 256) }
-    ensures { result ≡ long_up_to (length rights.now) rights.now }
+pub fn text_long(counts: Counts) -> usize
+    ensures { result ≡ long_up_to (length counts.entry.rights.now) counts.entry.rights.now }
 {
-    (0..rights.len()).map(|d| entry_long(rights, d)).sum()
+    (0..counts.rights.len())
+        .map(|d| entry_long(counts, d))
+        .sum()
 }
 
 // The byte that a word is a run of, and how often: - is one byte.
+#[tactic(auto, using(crate::proofs::PrintLaws::left_word, crate::proofs::PrintLaws::right_word))]
 fn word_bytes(right: u8, left: u8) -> (u8, usize)
     requires { min right left ≡ 0 }
     ensures { word_text (even_word right left) ≡ replicate result.1 result.0 }

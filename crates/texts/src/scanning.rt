@@ -1,10 +1,10 @@
 //! One entry at the front of a text: number, word, angle. Each reader gives what it read, and the text behind it.
-ghost use Rattle.std.specs.Prelude.{◌≡◌, ◌&&◌, ◌||◌, not, ◌≤◌, eqb, ltb, leb, length, get_or};
+ghost use Rattle.std.specs.Prelude.{◌≡◌, ◌&&◌, ◌||◌, not, ◌≤◌, eqb, ltb, leb, length, get_or, option_map};
 ghost use Rattle.plates.specs.Plates.{pick};
 ghost use Rattle.plates.specs.Shapes.{rights};
 ghost use Rattle.plates.specs.Listing.{number_of};
 ghost use Rattle.plates.specs.Grammar.{run_of, bends};
-ghost use Rattle.texts.specs.Parses.{capped, Gives, space_read, number_read, word_read, angle_read, entry_read};
+ghost use Rattle.texts.specs.Parses.{capped, space_read, number_read, word_read, angle_read, entry_read};
 
 use crate::entries::Entry;
 
@@ -27,6 +27,7 @@ fn number_in(digits: &[u8]) -> usize
 }
 
 // How many of the digits of a word are 0.
+#[tactic(auto, using(crate::proofs::ScanLaws::zeros_counted))]
 fn zeros_in(digits: &[u8]) -> usize
     ensures zeros { result ≡ rights (bends digits.now) }
     ensures within { result ≤ length digits.now }
@@ -36,7 +37,7 @@ fn zeros_in(digits: &[u8]) -> usize
 
 // The space at the front.
 fn read_space(s: &[u8]) -> Option<&[u8]>
-    ensures { Gives (λ x. x.now) result (space_read s.now) }
+    ensures { space_read s.now ≡ option_map (λ x. x.now) result }
 {
     match s {
         [b' ', rest @ ..] => Some(rest),
@@ -53,7 +54,7 @@ fn is_number(digits: &[u8]) -> bool
 
 // A number, and a space.
 fn read_number(s: &[u8]) -> Option<(usize, &[u8])>
-    ensures { Gives (λ x. (x.0, x.1.now)) result (number_read s.now) }
+    ensures { number_read s.now ≡ option_map (λ x. (x.0, x.1.now)) result }
 {
     let (digits, rest) = s.split_at(run_long(s, b'9'));
     if !is_number(digits) {
@@ -75,7 +76,7 @@ fn word_long(s: &[u8], digits: usize) -> usize
 
 // The right and left bends of a word of 1 to 255 digits or -, and a space.
 fn read_word(s: &[u8]) -> Option<(u8, u8, &[u8])>
-    ensures { Gives (λ x. (x.0, x.1, x.2.now)) result (word_read s.now) }
+    ensures { word_read s.now ≡ option_map (λ x. (x.0, x.1, x.2.now)) result }
 {
     let digits = &s[..run_long(s, b'1')];
     let long = word_long(s, digits.len());
@@ -84,13 +85,13 @@ fn read_word(s: &[u8]) -> Option<(u8, u8, &[u8])>
     }
     let rest = read_space(&s[long..])?;
     let right = zeros_in(digits);
-    // As: both are at most 255, so `u8::try_from` would ask for an error that there is not.
+    // `as`: both are at most 255, so `u8::try_from` would ask for an error that there is not.
     Some((right as u8, (digits.len() - right) as u8, rest))
 }
 
 // An angle, 1 to 4, and what ends the entry: whether it is a line feed.
 fn read_angle(s: &[u8]) -> Option<(u8, bool, &[u8])>
-    ensures { Gives (λ x. (x.0, x.1, x.2.now)) result (angle_read s.now) }
+    ensures { angle_read s.now ≡ option_map (λ x. (x.0, x.1, x.2.now)) result }
 {
     match s {
         [angle @ b'1'..=b'4', end @ (b'\n' | b' '), rest @ ..] => {
@@ -102,7 +103,7 @@ fn read_angle(s: &[u8]) -> Option<(u8, bool, &[u8])>
 
 /// The entry at the front of a text, if there is one.
 pub fn read_entry(s: &[u8]) -> Option<(Entry, &[u8])>
-    ensures { Gives (λ x. (x.0, x.1.now)) result (entry_read s.now) }
+    ensures { entry_read s.now ≡ option_map (λ x. (x.0, x.1.now)) result }
 {
     let (dart, rest) = read_number(s)?;
     let (right, left, rest) = read_word(rest)?;

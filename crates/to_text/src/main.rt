@@ -6,7 +6,7 @@ use std::io;
 use std::io::Read;
 use texts::write_text;
 
-// Writes the text, by way of `out`.
+// Writes the text, by way of `out`. Three slices: two files, and memory for a third.
 fn show(rt: &impl Print, list: &[u8], shape: &[u8], out: &mut [u8]) -> io::Result<()> {
     match write_text(list, shape, out) {
         Ok(long) => rt.write_all(&out[..long]),

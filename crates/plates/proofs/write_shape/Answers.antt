@@ -1,11 +1,9 @@
 -- `write_shape`: the list's refusal, 24, or what is given of the best shape of its plate.
-use mathlib.Core.Path.{◌≡◌, sym, ap, subst, ◌∙◌}
+use mathlib.Core.Path.{◌≡◌, sym, subst}
 use Rattle.std.proofs.Common.{rules, Err}
-use Rattle.std.specs.Option.{ok_or}
-use Rattle.refusals.specs.Numbers.{number_of, fault_of}
 use Rattle.refusals.specs.declared.Refusal.TheVariants.{NoShapeWithin}
 use Rattle.plates.specs.Claims.{NoneWithin}
-use Rattle.plates.specs.Answers.{shaped, shaped_of}
+use Rattle.plates.specs.Answers.{shaped_of}
 use Rattle.plates.specs.Says.{ShapeSays}
 use Rattle.plates.proofs.Shaping.{none_says, best_says}
 use Rattle.plates.proofs.Calls.{best_counts}
@@ -16,11 +14,9 @@ returns-in_err-best c =
     let s = c.args.list.now in
     let o = c.args.out.now in
     let none = c.in_err-best.ensures in
-    let refusal = c.in_err-best.field-0.0 in
-    let told : c.from_residual-in_err-best.result ≡ Err refusal = search rules in
-    let number : number_of refusal ≡ 24 = ap fault_of (none.value ∙ ap (λ b. ok_or b NoShapeWithin) none.ok_part) in
+    let told : c.from_residual-in_err-best.result ≡ Err NoShapeWithin = search rules in
     let own = c.in_ok-read.ensures in
-    rw told (subst (λ n. ShapeSays s o o (shaped n 0 0)) (sym number) (none_says s o (sym own.0) (subst NoneWithin own.1 (rw none.ok_part at c.best.ensures))))
+    rw told (none_says s o (sym own.0) (subst NoneWithin own.1 (rw none.ok_part at c.best.ensures)))
 
 pub returns : goal.returns
 returns c =

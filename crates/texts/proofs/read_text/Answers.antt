@@ -1,21 +1,15 @@
 -- `texts::read_text`: the list's refusal, the text's, the counts', or their file.
-use Rattle.std.proofs.Common.{◌≡◌, rules, Err}
-use Rattle.texts.proofs.ReadLaws.{text_refused, counts_refused, file_given, file_read}
+use Rattle.std.proofs.Common.{rules}
+use Rattle.texts.proofs.ReadLaws.{text_refused, counts_refused, file_given}
 use Rattle.texts.proofs.read_text.Goals as goal
 
 pub returns-in_err-read : goal.returns-in_err-read
 returns-in_err-read c =
-    let refused : c.from_residual-in_err-read.result ≡ Err c.in_err-read.field-0.0 = search rules in
-    text_refused c.in_ok-list.list c.in_ok-list.ensures.1 c.args.text.now c.args.out.now c.turns.ensures c.plan_of-plan.ensures refused c.in_err-read.ensures.number
+    text_refused c.in_ok-list.list c.in_ok-list.ensures.1 c.args.text.now c.args.out.now c.turns.ensures c.plan_of-plan.ensures (search rules) c.in_err-read.ensures.number
 
 pub returns-in_err-counted_fault : goal.returns-in_err-counted_fault
 returns-in_err-counted_fault c =
-    let refused : c.from_residual-in_err-counted_fault.result ≡ Err c.in_err-counted_fault.field-0.0 = search rules in
-    counts_refused c.in_ok-list.list c.in_ok-list.ensures.1 c.args.text.now c.args.out.now c.turns.ensures c.plan_of-plan.ensures c.in_ok-read.ensures.number c.in_ok-read.ensures.tables refused c.in_err-counted_fault.ensures
+    counts_refused c.in_ok-list.list c.in_ok-list.ensures.1 c.args.text.now c.args.out.now c.turns.ensures c.plan_of-plan.ensures c.in_ok-read.ensures.number c.in_ok-read.ensures.tables (search rules) c.in_err-counted_fault.ensures
 
 pub write_file-requires : goal.write_file-requires
 write_file-requires c = file_given c.in_ok-list.list c.in_ok-list.ensures.1 c.args.text.now c.args.out.now c.turns.ensures c.plan_of-plan.ensures c.in_ok-read.ensures.number c.in_ok-read.ensures.tables c.counts.ensures.given.0 c.counts.ensures.given.1
-
-pub returns : goal.returns
-returns c =
-    file_read c.in_ok-list.list c.in_ok-list.ensures.1 c.args.text.now c.args.out.now c.turns.ensures c.plan_of-plan.ensures c.in_ok-read.ensures.number c.in_ok-read.ensures.tables _ _ c.in_ok-counted_fault.ensures c.counts.ensures.given.0 c.counts.ensures.given.1 c.write_file.ensures

@@ -3,17 +3,8 @@ use Rattle.std.proofs.Common.{arith}
 use Rattle.plates.proofs.ListingText.{decimal_one_long, decimal_more_long, one_written, more_written}
 use Rattle.plates.proofs.listing.+write_decimal.Goals as goal
 
-pub bounds-out-at : goal.bounds-out-at
-bounds-out-at t c = omega (arith, c.requires, decimal_one_long c.args.n (omega arith))
-
 pub returns-then-n-lt10 : goal.returns-then-n-lt10
 returns-then-n-lt10 t c = one_written c.args.n c.args.at c.args.out.now (omega arith) (omega (arith, c.requires, decimal_one_long c.args.n (omega arith)))
-
-pub write_decimal-behind-requires : goal.write_decimal-behind-requires
-write_decimal-behind-requires t c = (omega (arith, c.decreases), omega (arith, c.requires, decimal_more_long c.args.n (omega arith)))
-
-pub bounds-out-behind : goal.bounds-out-behind
-bounds-out-behind t c = omega (arith, c.requires, decimal_more_long c.args.n (omega arith), c.write_decimal-behind.ensures.behind, c.write_decimal-behind.auto.out)
 
 pub returns : goal.returns
 returns t c = more_written (omega arith) (omega (arith, c.requires)) (omega (arith, c.requires, decimal_more_long c.args.n (omega arith), c.write_decimal-behind.ensures.behind, c.write_decimal-behind.auto.out)) c.write_decimal-behind.ensures

@@ -5,4 +5,4 @@ use Rattle.plates.proofs.ListingRows.{numbered_long}
 use Rattle.plates.proofs.listing.write_numbered.Goals as goal
 
 pub returns : goal.returns
-returns c = written_then (omega (arith, c.requires, numbered_long c.args.word.now c.args.n)) c.write_text-digits.ensures c.write_decimal.ensures
+returns c = written_then (omega (arith, c.requires, numbered_long c.args.word.now c.args.n)) c.put_text-digits.ensures c.write_decimal.ensures

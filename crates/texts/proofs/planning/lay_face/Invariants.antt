@@ -4,8 +4,8 @@ use lib.ListN.{length}
 use Rattle.texts.proofs.LaidLaws.{Walking}
 use Rattle.texts.proofs.planning.lay_face.Given as goal
 
-abbrev pub invariant-loop-darts : goal.invariant-loop-darts
-invariant-loop-darts l = Walking l.next l.darts l.start l.initial.plan l.plan l.dart
+abbrev pub invariant-loop-start : goal.invariant-loop-start
+invariant-loop-start l = Walking l.plate.next l.plate.darts l.start l.initial.plan l.plan l.dart
 
-abbrev pub decreases-loop-darts : goal.decreases-loop-darts
-decreases-loop-darts l = 256 - length l.plan
+abbrev pub decreases-loop-start : goal.decreases-loop-start
+decreases-loop-start l = 256 - length l.plan

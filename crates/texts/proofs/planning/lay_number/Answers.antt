@@ -1,9 +1,6 @@
 -- `texts::planning::lay_number`: the walk from the lowest dart of that face.
-use Rattle.texts.proofs.LayingLaws.{number_room, number_laid}
+use Rattle.texts.proofs.LayingLaws.{number_room}
 use Rattle.texts.proofs.planning.lay_number.Goals as goal
 
 pub lay_face-requires : goal.lay_face-requires
-lay_face-requires c = number_room c.args.plate c.requires c.lead_of-start.ensures
-
-pub returns : goal.returns
-returns c = number_laid c.args.plate c.requires c.lead_of-start.ensures _ c.lay_face.ensures
+lay_face-requires c = number_room c.args.plate.now c.requires c.lead_of-start.ensures

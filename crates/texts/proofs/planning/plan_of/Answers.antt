@@ -2,15 +2,12 @@
 use Rattle.std.proofs.Common.{subst, sym, ◌+◌}
 use Rattle.embedding.specs.Read.{meant}
 use Rattle.texts.specs.Plan.{Laying}
-use Rattle.texts.proofs.LayingLaws.{outer_fits, outer_laid, face_fits, face_same, face_more}
+use Rattle.texts.proofs.LayingLaws.{outer_fits, face_fits, face_same, face_more}
 use Rattle.texts.proofs.planning.plan_of.Goals.{then-k-outer, else-k-outer}
 use Rattle.texts.proofs.planning.plan_of.Goals as goal
 
 pub lay_number-requires : goal.lay_number-requires
 lay_number-requires c = outer_fits c.args.plate c.from-outer.ensures c.from.ensures _ c.new-plan.ensures
-
-pub loop-k-init : goal.loop-k-init
-loop-k-init c = outer_laid c.args.plate c.from-outer.ensures c.from.ensures _ _ c.new-plan.ensures c.lay_number.ensures
 
 pub lay_number-requires-then-k-outer : goal.lay_number-requires-then-k-outer
 lay_number-requires-then-k-outer c = face_fits c.args.plate c.from-outer.ensures c.from.ensures c.loop-k-test.true _ c.loop-k.invariant c.if-k-outer.true

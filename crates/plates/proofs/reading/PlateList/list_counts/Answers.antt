@@ -1,11 +1,8 @@
 -- `list_counts` writes the text into a buffer and gives it.
 use Rattle.plates.specs.Listing.{listing_text}
 use Rattle.plates.specs.Answers.{listed_of}
-use Rattle.plates.proofs.ListingSaid.{cut_gives, listing_room, listing_said}
+use Rattle.plates.proofs.ListingSaid.{cut_gives, listing_said}
 use Rattle.plates.proofs.reading.PlateList.list_counts.Goals as goal
-
-pub write_counts-long-requires : goal.write_counts-long-requires
-write_counts-long-requires c = listing_room c.args.self.now.accepted c.requires.best c.revision.result c.revision.ensures c.requires.bytes
 
 pub returns : goal.returns
 returns c =

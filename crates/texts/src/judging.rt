@@ -1,4 +1,4 @@
-//! The refusals of the counts that a text gives.
+//! The verdict on the counts that a text gives.
 ghost use Rattle.std.specs.Prelude.{◌≡◌};
 ghost use Rattle.refusals.specs.Numbers.{fault_of};
 ghost use Rattle.plates.specs.Files.{plate_of, limits_of};
