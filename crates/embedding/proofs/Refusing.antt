@@ -3,14 +3,14 @@ use mathlib.Core.Path.{◌≡◌, refl, sym, ap, subst, ◌∙◌}
 use mathlib.Core.Bool.{Bool, true, false, ◌||◌, not}
 use Prim.Native.Nat.{ℕ, suc, ◌+◌, ◌/◌, ◌≤◌, ◌<◌}
 use native.Mathlib.Omega.{arith}
-use borrow.Author.Tests.{eqb-true, eq-eqb, ne_eqb, ltb-true, ltb-false, lt-ltb, le-ltb, le-leb, lt-leb}
-use lib.Dec.{eqb, ltb, leb}
+use borrow.Author.Tests.{eqb-true, eq-eqb, ne_eqb, lt-ltb, le-ltb, lt-leb}
+use lib.Dec.{eqb}
 use lib.ListN.{get_or}
 use Rattle.finite.proofs.Tables.{up_below}
-use Rattle.finite.proofs.Tests.{same_test, not_both, first_assoc}
+use Rattle.finite.proofs.Tests.{same_test, not_both}
 use Rattle.embedding.specs.Plates.{first_of, when, is_in, Plate, darts, strips, twin, ends_at, degree, face_of, faces}
 use Rattle.embedding.specs.Read.{meant, Stands, Reads, Accepted, lead, place_of, face_number}
-use Rattle.embedding.specs.Edits.{no_post, no_strip, taken, full, no_face, hang_fault, join_fault}
+use Rattle.embedding.specs.Edits.{no_strip, taken, full, no_face, join_fault}
 use Rattle.embedding.specs.Journal.{SteppedTo}
 use Rattle.embedding.specs.declared.Plate.{Plate as Held}
 use Rattle.refusals.specs.declared.Refusal.{Refusal}
@@ -30,13 +30,6 @@ was_false {r} {b} e h = by b (sym e ∙ h)
     by : (b : Bool) → not b ≡ true → b ≡ false
     by true h = absurd (not_both h refl)
     by false h = refl
-
-not_below : (d n : ℕ) → not (ltb d n) ≡ leb n d
-not_below d n = by (ltb d n) refl
-  where
-    by : (b : Bool) → ltb d n ≡ b → not b ≡ leb n d
-    by true e = sym (lt-leb n d (ltb-true d n e))
-    by false e = sym (le-leb n d (ltb-false d n e))
 
 or_when : (a b : Bool) (n : ℕ) → when (a || b) (suc n) ≡ first_of (when a (suc n)) (when b (suc n))
 or_when true b n = refl
@@ -107,12 +100,6 @@ module _ (q : Held) where
       twice : (b : Bool) → b ≡ not (not b)
       twice true = refl
       twice false = refl
-
-  -- a hanging strip, past 36
-  pub hang_is : (d n : ℕ) → n ≡ first_of (when (not (ltb d q.darts)) 35) (when (no_post p || no_strip p) 36) → first_of n (when (full p (ends_at p d) 1) 37) ≡ hang_fault p d
-  hang_is d n e =
-      ap (λ (k : ℕ). first_of k (when (full p (ends_at p d) 1) 37)) (e ∙ ap (λ (b : Bool). first_of (when b 35) (when (no_post p || no_strip p) 36)) (ap (λ (k : ℕ). not (ltb d k)) s.dart_count ∙ not_below d (darts p)))
-      ∙ sym (first_assoc (when (leb (darts p) d) 35) (when (no_post p || no_strip p) 36) (when (full p (ends_at p d) 1) 37))
 
   -- a join, past 36
   pub join_is : (d e more : ℕ) → no_face p d e ≡ false → q.darts / 2 < 128 → more ≡ taken p d e → first_of (when (full p (ends_at p d) more) 37) (when (full p (ends_at p e) more) 37) ≡ join_fault p d e

@@ -14,7 +14,6 @@ use Rattle.std.proofs.lemmas.List.Recursion.{is_position_or_len}
 use Rattle.finite.proofs.Tests.{same_test}
 use Rattle.embedding.specs.Plates.{is_in}
 use Rattle.embedding.specs.Meant.{place_of}
-use Rattle.embedding.proofs.Fronted.{place_most}
 
 eqb-swap : (x y : ℕ) → eqb y x ≡ eqb x y
 eqb-swap x y = same_test (eqb y x) (eqb x y) (λ e. eq-eqb x y (sym (eqb-true y x e))) (λ e. eq-eqb y x (sym (eqb-true x y e)))
@@ -50,10 +49,3 @@ missing x s e = by (ltb (position_or_len (λ y. eqb x y) s) (length s)) refl e
     by : (b : Bool) → ltb (position_or_len (λ y. eqb x y) s) (length s) ≡ b → None ≡ cond b (Some (position_or_len (λ y. eqb x y) s)) None → length s ≤ place_of x s
     by true h e = cc
     by false h e = omega (arith, place-position x s, ltb-false (position_or_len (λ y. eqb x y) s) (length s) h)
-
-pub position_is : (x : ℕ) (s : List ℕ) → unwrap_or (position (λ y. eqb x y) s) (length s) ≡ place_of x s
-position_is x s = by (ltb (position_or_len (λ y. eqb x y) s) (length s)) refl
-  where
-    by : (b : Bool) → ltb (position_or_len (λ y. eqb x y) s) (length s) ≡ b → unwrap_or (cond b (Some (position_or_len (λ y. eqb x y) s)) None) (length s) ≡ place_of x s
-    by true e = sym (place-position x s)
-    by false e = omega (arith, ltb-false (position_or_len (λ y. eqb x y) s) (length s) e, place-position x s, place_most x s)

@@ -25,31 +25,29 @@ pub fn no_strips() -> Strips
 }
 
 // One strip end, at `v`.
-fn add_end(posts: usize, s: Strips, v: usize) -> Strips
+fn add_end(posts: usize, s: &mut Strips, v: usize)
     requires { posts ≤ 64 }
-    ensures { result ≡ add_end posts v s }
+    ensures { s.new ≡ add_end posts v s.old }
 {
-    let mut r = s;
     if posts <= v {
-        r.stray = true;
-        return r;
+        s.stray = true;
+        return;
     }
-    let count = r.degrees[v];
+    let count = s.degrees[v];
     if 4 <= count {
-        r.over = true;
-        return r;
+        s.over = true;
+        return;
     }
-    r.degrees[v] = count + 1;
-    r
+    s.degrees[v] = count + 1;
 }
 
 // One strip, from `a` to `b`.
-fn add_strip(posts: usize, s: Strips, a: usize, b: usize) -> Strips
+fn add_strip(posts: usize, s: &mut Strips, a: usize, b: usize)
     requires { posts ≤ 64 }
-    ensures { result ≡ add_strip posts a b s }
+    ensures { s.new ≡ add_strip posts a b s.old }
 {
-    let first = add_end(posts, s, a);
-    add_end(posts, first, b)
+    add_end(posts, s, a);
+    add_end(posts, s, b);
 }
 
 // The strips of `rest` after those that `s` is the state of.
@@ -60,7 +58,7 @@ pub fn go_on(posts: usize, s: Strips, rest: &[u8]) -> Strips
     let mut r = s;
     let mut left = rest;
     while let [a, b, more @ ..] = left {
-        r = add_strip(posts, r, usize::from(*a), usize::from(*b));
+        add_strip(posts, &mut r, usize::from(*a), usize::from(*b));
         left = more;
     }
     r

@@ -2,7 +2,7 @@
 use mathlib.Core.Path.{sym, ap, subst, ◌∙◌}
 use native.Mathlib.Omega.{arith}
 use Rattle.refusals.specs.Numbers.{number_of}
-use Rattle.embedding.proofs.Numbers.{number_some}
+use Rattle.refusals.proofs.Numbered.{some_number}
 use Rattle.plates.specs.Answers.{listed_of}
 use Rattle.plates.specs.Says.{all_bytes}
 use Rattle.plates.specs.Claims.{NoneWithin}
@@ -13,7 +13,7 @@ use Rattle.plates.proofs.write_listing.Goals as goal
 pub returns-in-Err : goal.returns-in-Err
 returns-in-Err c =
     let refusal = c.in-Err.refusal in
-    refused_said (number_of refusal) c.args.list.now c.args.out.now _ (listed_of c.list_refused.result) c.in-Err.ensures.0 (number_some refusal) c.list_refused.ensures
+    refused_said (number_of refusal) c.args.list.now c.args.out.now _ (listed_of c.list_refused.result) c.in-Err.ensures.0 (some_number refusal) c.list_refused.ensures
 
 pub list_counts-requires-clause-bytes : goal.list_counts-requires-clause-bytes
 list_counts-requires-clause-bytes c = ap all_bytes c.in-Ok.ensures.1 ∙ all-bytes c.args.list.now (λ i. omega (arith, c.type_inv.list i))

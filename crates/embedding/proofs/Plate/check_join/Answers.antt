@@ -9,7 +9,7 @@ use Rattle.refusals.specs.Numbers.{number_of, fault_of}
 use Rattle.embedding.specs.Plates.{first_of, when, ends_at}
 use Rattle.embedding.specs.Edits.{full}
 use Rattle.embedding.specs.Read.{meant}
-use Rattle.embedding.proofs.Numbers.{number_some}
+use Rattle.refusals.proofs.Numbered.{some_number}
 use Rattle.embedding.proofs.Refusing.{was_false, join_is}
 use Rattle.embedding.proofs.Plate.check_join.Goals as goal
 
@@ -21,7 +21,7 @@ returns-in_err-check_places c =
     let told : fault_of c.from_residual.result ≡ number_of refusal = search rules in
     let one : c.one_face.result ≡ true = search rules in
     let n = number_of refusal in
-    told ∙ sym (first_some n _ (number_some refusal)) ∙ ap (λ (k : ℕ). first_of k (when (full (meant q) (ends_at (meant q) c.args.e) more.result) 37)) c.in_err-check_places.ensures
+    told ∙ sym (first_some n _ (some_number refusal)) ∙ ap (λ (k : ℕ). first_of k (when (full (meant q) (ends_at (meant q) c.args.e) more.result) 37)) c.in_err-check_places.ensures
     ∙ join_is q c.args.d c.args.e more.result (was_false c.one_face.ensures one) (omega arith) more.ensures.0
 
 pub returns : goal.returns

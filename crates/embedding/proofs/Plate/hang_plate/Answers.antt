@@ -17,7 +17,7 @@ read_more-requires c =
     let room = hang_room (meant q) c.args.d (sym c.in_ok-check_hang.ensures) in
     let few : q.darts ≤ 254 = omega (arith, room.strips_few, q.stands.dart_count, q.accepted.even_darts) in
     let even : q.darts % 2 ≡ 0 = omega (arith, q.stands.dart_count, q.accepted.even_darts) in
-    (omega (arith, room.posts_few, q.stands.same_posts), omega arith, omega arith, search rules, search rules)
+    (omega arith, omega arith, search rules, search rules)
 
 pub returns : goal.returns
 returns c =

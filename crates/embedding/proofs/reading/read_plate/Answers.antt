@@ -10,7 +10,7 @@ use Rattle.embedding.specs.Read.{Past}
 use Rattle.embedding.specs.declared.strips.Strips.{Strips}
 use Rattle.embedding.proofs.OnePass.{strips_few}
 use Rattle.embedding.proofs.Whole.{early, strips_refused}
-use Rattle.embedding.proofs.Numbers.{number_some}
+use Rattle.refusals.proofs.Numbered.{some_number}
 use Rattle.embedding.proofs.reading.read_plate.Goals as goal
 use Rattle.embedding.proofs.reading.read_plate.Goals.{After-answer}
 
@@ -44,7 +44,7 @@ returns-in_err-answer c =
     let at = (goal.at.returns-in_err-answer c).After-answer in
     let refusal = c.in_err-answer.field-0.0 in
     let told : c.from_residual-in_err-answer.result ≡ Err refusal = search rules in
-    rw told (strips_refused (plate c.args.posts c.args.ends.now c.args.order.now c.args.outer) (none at) refusal (fault_is at c.in_err-answer.ensures c.args.order.now c.args.outer) (number_some refusal))
+    rw told (strips_refused (plate c.args.posts c.args.ends.now c.args.order.now c.args.outer) (none at) refusal (fault_is at c.in_err-answer.ensures c.args.order.now c.args.outer) (some_number refusal))
 
 pub read_rest-requires : goal.read_rest-requires
 read_rest-requires c =

@@ -7,11 +7,12 @@ use lib.ListN.{length}
 use Rattle.std.proofs.Common.{Some}
 use Rattle.finite.specs.Tables.{Table}
 use Rattle.embedding.specs.Plates.{Plate, plate, darts, reach}
-use Rattle.embedding.specs.Steps.{place_in, OrderRead}
+use Rattle.embedding.specs.Steps.{OrderRead}
+use Rattle.embedding.specs.Meant.{place_in}
 use Rattle.embedding.specs.Meant.{StandFor, Accepted}
 use Rattle.embedding.specs.Read.{Follows, FacesLabelled}
 use Rattle.embedding.proofs.Counting.{few_most}
-use Rattle.embedding.proofs.Holding.{held_is, held_stands, held_accepted}
+use Rattle.embedding.proofs.Holding.{stands-meant, held_stands, held_accepted}
 use Rattle.embedding.proofs.Whole.{Early, early, ends_below, PastOrder, refused_15, no_fault, next_follows, next_one, sizes_first, faces_most}
 use Rattle.embedding.proofs.reading.read_rest.Goals as goal
 use Rattle.embedding.proofs.reading.read_rest.Goals.{Else-darts-from, After-faces-labelled, After-padded}
@@ -120,4 +121,4 @@ returns c =
     let e = (goal.at.returns c).After-padded in
     let k = whole e (places s) (follows l (past_order s) (places s)) (labels l (past_order s) (places s)) in
     let a = accepted e (past_order s) (inner s) (joined l) (labels l (past_order s) (places s)) in
-    record { number = sym a.no_fault; plate = held_is k a }
+    record { number = sym a.no_fault; plate = stands-meant k a }

@@ -16,8 +16,8 @@ loop-left-init c = record {
   few = omega arith;
 }
 
-pub join-r-requires : goal.join-r-requires
-join-r-requires c =
+pub join-requires : goal.join-requires
+join-requires c =
     let q = c.args.self.now in
     let left = c.loop-left in
     let front = below_front q.posts left.left.now (omega (arith, c.in-len2-up.len_at_least)) left.invariant.below in
@@ -28,10 +28,10 @@ loop-left-preserved c =
     let q = c.args.self.now in
     let loop = c.loop-left in
     let left = loop.left.now in
-    let join = c.join-r in
+    let join = c.join in
     let long : 1 < length left = omega (arith, c.in-len2-up.len_at_least) in
     record {
-      joined = λ m h. subst (λ (es : List ℕ). Rounding q.ends.now m es join.result) (sym (rest_lent left 2))
+      joined = λ m h. subst (λ (es : List ℕ). Rounding q.ends.now m es join.new.s) (sym (rest_lent left 2))
           (rounding_more (loop.invariant.joined m h) long c.from.ensures c.from-in-len2-up.ensures join.ensures);
       below = ap (all_below q.posts) (rest_lent left 2) ∙ (below_front q.posts left long loop.invariant.below).2;
       few = omega (arith, ap (length {A = ℕ}) (rest_lent left 2), length-drop 2 left, join.ensures.most, loop.invariant.few, long);
