@@ -110,6 +110,7 @@ impl Plate {
             let degree = usize::from(self.degrees[v]);
             let from = 4 * v;
             let to = from + degree;
+            // Two lines: the check does not cover `all = append(all, ..)`.
             let more = append(all, at, &self.places[from..to]);
             all = more;
             at += degree;
@@ -139,7 +140,7 @@ impl Plate {
         Ok(())
     }
 
-    // How many places a join takes at the post where `d` ends.
+    // How many places a join takes at the post where `d` ends. The two darts go by themselves: what is asked of them differs.
     fn taken_at(self, d: usize, e: usize) -> usize
         requires { (d < self.darts) × (e < self.darts) }
         ensures { (result ≡ taken (meant self) d e) × (result ≤ 2) }
@@ -245,6 +246,7 @@ impl Plate {
         read_more(posts, darts + 2, &new_ends, &new_order, self.outer)
     }
 
+    // The methods `split`, `hang` and `join` differ in the step that they make; as one function of the step they are `apply`.
     // Strip `strip` ends at a new post, and a new strip runs from there to its old end.
     pub fn split(self, strip: usize) -> Edited
         ensures { EditedTo (split_fault (meant self) strip) (split (meant self) strip) self result }

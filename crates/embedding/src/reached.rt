@@ -5,7 +5,7 @@ ghost use Rattle.embedding.specs.Steps.{Joined, RoundMade};
 
 use crate::order::Ordered;
 
-// The posts reached, and how many: counting the marks anew would go over all of them after each round.
+// The posts reached, and how many: counting the marks anew would go over all of them after each round. An array: the library allocates nothing.
 #[derive(Clone, Copy)]
 pub struct Seen {
     pub seen: [bool; 64],

@@ -5,7 +5,9 @@ ghost use Rattle.embedding.specs.Pass.{no_strips, add_end, add_strip, GoneOn, An
 
 use refusals::Refusal;
 
-// Two marks and not a `Result`: 9 wins over 11 though 11 may be met first. What was met so far: an end that is no post (9), a fifth place taken at a post (11); and how many places are taken at each post, one by each strip end, counted up to four.
+// What was met so far: an end that is no post (9), a fifth place taken at a post (11); and how many places are taken at each post, one by each strip end, counted up to four.
+// Two marks and not a `Result`: 9 wins over 11 though 11 may be met first. An array: the library allocates nothing.
+// How many posts there are goes beside it, and each function asks that they fit: the state of the definitions does not hold it.
 #[derive(Clone, Copy)]
 pub struct Strips {
     pub stray: bool,
@@ -64,7 +66,7 @@ pub fn go_on(posts: usize, s: Strips, rest: &[u8]) -> Strips
     r
 }
 
-// 9 or 11, the first that was met.
+// 9 or 11: 9 wins, whichever was met first.
 pub fn answer(s: Strips) -> Result<(), Refusal>
     ensures { Answered s (fault_of result) }
 {

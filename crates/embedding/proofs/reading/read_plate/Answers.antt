@@ -17,7 +17,7 @@ use Rattle.embedding.proofs.reading.read_plate.Goals.{After-answer}
 -- the strips gone over
 module _ (c : After-answer) where
   none : early_fault c.args.posts c.args.ends.now ≡ 0
-  none = ap (λ (k : ℕ). early_fault k c.args.ends.now) (sym c.from-n.ensures) ∙ sym c.in_ok-check_counts.ensures
+  none = ap (λ (k : ℕ). early_fault k c.args.ends.now) (sym c.from.ensures) ∙ sym c.in_ok-check_counts.ensures
 
   few_posts : c.args.posts ≤ 64
   few_posts = (early c.args.posts c.args.ends.now none).posts_most
@@ -25,7 +25,7 @@ module _ (c : After-answer) where
   state_is : c.go_on-strips.result ≡ state_of c.args.posts c.args.ends.now
   state_is =
       let e = c.args.ends.now in
-      let n = c.from-n in
+      let n = c.from in
       c.go_on-strips.ensures.steps ∙ ap (λ (s : Strips). go_on n.result s e) c.no_strips.ensures ∙ ap (λ (k : ℕ). state_of k e) n.ensures
 
   fault_is : {n : ℕ} → Answered c.go_on-strips.result n → (o : List ℕ) (x : ℕ) → n ≡ strips_fault (plate c.args.posts c.args.ends.now o x)
@@ -49,4 +49,4 @@ returns-in_err-answer c =
 pub read_rest-requires : goal.read_rest-requires
 read_rest-requires c =
     let at = (goal.at.read_rest-requires c).After-answer in
-    (c.requires.0, c.requires.1, subst (λ (k : ℕ). Past k c.args.ends.now c.go_on-strips.result.degrees) (sym c.from-n.ensures) (past at c.in_ok-answer.ensures))
+    subst (λ (k : ℕ). Past k c.args.ends.now c.go_on-strips.result.degrees) (sym c.from.ensures) (past at c.in_ok-answer.ensures)

@@ -8,31 +8,30 @@ use Rattle.std.proofs.Common.{Some}
 use Rattle.finite.specs.Tables.{Table}
 use Rattle.embedding.specs.Plates.{Plate, plate, darts, reach}
 use Rattle.embedding.specs.Steps.{OrderRead}
-use Rattle.embedding.specs.Meant.{place_in}
-use Rattle.embedding.specs.Meant.{StandFor, Accepted}
+use Rattle.embedding.specs.Meant.{place_in, StandFor, Accepted}
 use Rattle.embedding.specs.Read.{Follows, FacesLabelled}
 use Rattle.embedding.proofs.Counting.{few_most}
 use Rattle.embedding.proofs.Holding.{stands-meant, held_stands, held_accepted}
 use Rattle.embedding.proofs.Whole.{Early, early, ends_below, PastOrder, refused_15, no_fault, next_follows, next_one, sizes_first, faces_most}
-use Rattle.embedding.proofs.reading.read_rest.Goals as goal
-use Rattle.embedding.proofs.reading.read_rest.Goals.{Else-darts-from, After-faces-labelled, After-padded}
+use Rattle.embedding.proofs.reading.Lists.read_rest.Goals as goal
+use Rattle.embedding.proofs.reading.Lists.read_rest.Goals.{Else-darts-from, After-faces-labelled, After-padded}
 
 -- past 12
 module _ (c : Else-darts-from) where
   abbrev p : Plate
-  p = plate c.args.posts c.args.ends.now c.args.order.now c.args.outer
+  p = plate c.args.self.now.posts c.args.self.now.ends.now c.args.self.now.order.now c.args.self.now.outer
 
-  first : Early c.args.posts
-  first = early c.args.posts c.args.ends.now c.requires.2.early
+  first : Early c.args.self.now.posts
+  first = early c.args.self.now.posts c.args.self.now.ends.now c.requires.early
 
-  read : OrderRead c.args.posts c.args.ends.now c.args.order.now (Some c.in_ok-places.places)
-  read = subst (OrderRead c.args.posts c.args.ends.now c.args.order.now) c.in_ok-places.ensures.ok_part c.read_order.ensures
+  read : OrderRead c.args.self.now.posts c.args.self.now.ends.now c.args.self.now.order.now (Some c.in_ok-places.places)
+  read = subst (OrderRead c.args.self.now.posts c.args.self.now.ends.now c.args.self.now.order.now) c.in_ok-places.ensures.ok_part c.read_order.ensures
 
   past_order : PastOrder p c.args.degrees
-  past_order = record { past = c.requires.2; long = c.if-order-ends.false; parts = read.ok c.args.outer }
+  past_order = record { past = c.requires; long = c.if-self-darts.false; parts = read.ok c.args.self.now.outer }
 
   places : Table 256 (place_in p) c.in_ok-places.places
-  places = read.places c.args.outer
+  places = read.places c.args.self.now.outer
 
   inner : p.outer < darts p
   inner = omega (arith, c.if-darts-from.false, c.from.ensures)
@@ -40,16 +39,16 @@ module _ (c : Else-darts-from) where
 -- the faces labelled
 module _ (c : After-faces-labelled) where
   abbrev q : Plate
-  q = plate c.args.posts c.args.ends.now c.args.order.now c.args.outer
+  q = plate c.args.self.now.posts c.args.self.now.ends.now c.args.self.now.order.now c.args.self.now.outer
 
   follows : PastOrder q c.args.degrees → Table 256 (place_in q) c.in_ok-places.places → Follows q (darts q) c.next_darts.result
-  follows h t = next_follows h c.requires.1 c.requires.0 t c.next_darts.ensures
+  follows h t = next_follows h c.args.self.now.even c.args.self.now.short t c.next_darts.ensures
 
   labels : PastOrder q c.args.degrees → Table 256 (place_in q) c.in_ok-places.places → FacesLabelled q c.faces-labelled.result
   labels h t = c.faces-labelled.ensures q (follows h t)
 
   joined : length (reach q.posts q (0 ∷ [])) ≡ q.posts
-  joined = sym (c.reach_count.ensures c.args.order.now c.args.outer) ∙ c.if-reach_count-posts.false
+  joined = sym (c.reach_count.ensures c.args.self.now.order.now c.args.self.now.outer) ∙ c.if-reach_count-posts.false
 
 pub invariant_of-ordered : goal.invariant_of-ordered
 invariant_of-ordered c =
@@ -57,44 +56,44 @@ invariant_of-ordered c =
     record {
       some = (first s).some_post;
       few = (first s).posts_most;
-      short = c.requires.0;
-      even = c.requires.1;
-      below = ends_below (p s) c.requires.2;
-      four = few_most (first s).posts_most c.requires.2.few;
+      short = c.args.self.now.short;
+      even = c.args.self.now.even;
+      below = ends_below (p s) c.requires;
+      four = few_most (first s).posts_most c.requires.few;
     }
 
 pub invariant_of-walk : goal.invariant_of-walk
 invariant_of-walk c =
     let s = (goal.at.invariant_of-walk c).Else-darts-from in
-    record { few = c.requires.0; one = next_one (past_order s) c.requires.1 c.requires.0 (places s) c.next_darts.ensures }
+    record { few = c.args.self.now.short; one = next_one (past_order s) c.args.self.now.even c.args.self.now.short (places s) c.next_darts.ensures }
 
 pub overflow_add-posts : goal.overflow_add-posts
 overflow_add-posts c =
     let s = (goal.at.overflow_add-posts c).Else-darts-from in
     let l = (goal.at.overflow_add-posts c).After-faces-labelled in
-    omega (arith, (first s).posts_most, c.requires.0, (labels l (past_order s) (places s)).count, faces_most (p s))
+    omega (arith, (first s).posts_most, c.args.self.now.short, (labels l (past_order s) (places s)).count, faces_most (p s))
 
 pub returns-then-posts-faces : goal.returns-then-posts-faces
 returns-then-posts-faces c =
     let s = (goal.at.returns-then-posts-faces c).Else-darts-from in
     let l = (goal.at.returns-then-posts-faces c).After-faces-labelled in
-    let n = c.args.posts in
+    let n = c.args.self.now.posts in
     refused_15 (past_order s) (inner s) (joined l) (λ e. c.if-posts-faces.true (ap (λ (k : ℕ). n + k) (labels l (past_order s) (places s)).count ∙ e))
 
 -- the plate
 module _ (c : After-padded) where
   abbrev r : Plate
-  r = plate c.args.posts c.args.ends.now c.args.order.now c.args.outer
+  r = plate c.args.self.now.posts c.args.self.now.ends.now c.args.self.now.order.now c.args.self.now.outer
 
   whole : Table 256 (place_in r) c.in_ok-places.places → Follows r (darts r) c.next_darts.result → FacesLabelled r c.faces-labelled.result
-      → StandFor r c.args.posts (length c.args.ends.now) c.padded.result c.in_ok-places.places c.args.degrees c.args.outer c.next_darts.result c.faces-labelled.result.face c.faces-labelled.result.faces c.copy_from_slice.new.self
+      → StandFor r c.args.self.now.posts (length c.args.self.now.ends.now) c.padded.result c.in_ok-places.places c.args.degrees c.args.self.now.outer c.next_darts.result c.faces-labelled.result.face c.faces-labelled.result.faces c.copy_from_slice.new.self
   whole t f l =
       record {
         same_posts = refl;
         dart_count = refl;
         strip_ends = c.padded.ensures;
         four_places = t;
-        post_degrees = c.requires.2.few.table;
+        post_degrees = c.requires.few.table;
         outer_dart = refl;
         next-darts = f.table;
         face_numbers = l.face;
@@ -103,7 +102,7 @@ module _ (c : After-padded) where
       }
 
   accepted : PastOrder r c.args.degrees → r.outer < darts r → length (reach r.posts r (0 ∷ [])) ≡ r.posts → FacesLabelled r c.faces-labelled.result → Accepted r
-  accepted h i j l = record { no_fault = no_fault h i j (ap (λ (k : ℕ). c.args.posts + k) (sym l.count) ∙ c.if-posts-faces.false); even_darts = c.requires.1 }
+  accepted h i j l = record { no_fault = no_fault h i j (ap (λ (k : ℕ). c.args.self.now.posts + k) (sym l.count) ∙ c.if-posts-faces.false); even_darts = c.args.self.now.even }
 
 pub invariant_of-result : goal.invariant_of-result
 invariant_of-result c =
