@@ -1,5 +1,5 @@
 -- Posts reached, as marks: a strip, a round, all rounds.
-use mathlib.Core.Path.{◌≡◌, refl, sym, ap, subst, ◌∙◌}
+use mathlib.Core.Path.{◌≡◌, refl, sym, ap, ◌∙◌}
 use mathlib.Core.Bool.{Bool, true, false, ◌&&◌, ◌||◌, not}
 use mathlib.Core.List.{List, [], ◌∷◌}
 use mathlib.Core.Logic.{⊎_elim}
@@ -44,14 +44,6 @@ rounding_more {e} {l} {left} {a} {b} h k p q j =
       rest = ap (λ (c : ℕ). joins (drop 2 left) (join_one c b h.posts)) p ∙ ap (λ (c : ℕ). joins (drop 2 left) (join_one (get_or left 0 0) c h.posts)) q
           ∙ ap (λ (es : List ℕ). joins es h.posts) (sym (two_front left 0 k)) ∙ h.rest;
     }
-
-joins_short : (e l : List ℕ) → length e ≤ 1 → joins e l ≡ l
-joins_short [] l k = refl
-joins_short (a ∷ []) l k = refl
-joins_short (a ∷ (b ∷ e)) l k = absurd (omega arith)
-
-pub rounding_done : {e l left : List ℕ} {r : Seen} → Rounding e l left r → length left ≤ 1 → Marks (joins e l) r
-rounding_done {e} {l} {left} {r} h k = subst (λ (x : List ℕ). Marks x r) (sym (joins_short left h.posts k) ∙ h.rest) h.marks
 
 -- the ends of the first strip, and of those behind it
 pub below_front : (n : ℕ) (left : List ℕ) → 1 < length left → all_below n left ≡ true → (get_or left 0 0 < n) × (get_or left 1 0 < n) × (all_below n (drop 2 left) ≡ true)

@@ -128,16 +128,21 @@ impl Plate {
         Ok(())
     }
 
-    // 37: fewer than `more` places are left at the post where `d` ends.
-    fn check_places(self, d: usize, more: usize) -> Result<(), Refusal>
-        requires { (d < self.darts) × (more ≤ 2) }
-        ensures { fault_of result ≡ when (full (meant self) (ends_at (meant self) d) more) 37 }
+    // The post where `d` ends.
+    fn end_post(self, d: usize) -> usize
+        requires { d < self.darts }
+        ensures { (result ≡ ends_at (meant self) d) × (result < 64) }
     {
-        let v = usize::from(self.ends[twin_of(d)]);
-        if 4 < usize::from(self.degrees[v]) + more {
-            return Err(Refusal::PostFull);
-        }
-        Ok(())
+        usize::from(self.ends[twin_of(d)])
+    }
+
+    // Whether `more` places are more than are left at the post where `d` ends.
+    fn is_full(self, d: usize, more: usize) -> bool
+        requires { (d < self.darts) × (more ≤ 2) }
+        ensures { result ≡ full (meant self) (ends_at (meant self) d) more }
+    {
+        let v = self.end_post(d);
+        4 < usize::from(self.degrees[v]) + more
     }
 
     // How many places a join takes at the post where `d` ends. The two darts go by themselves: what is asked of them differs.
@@ -145,7 +150,7 @@ impl Plate {
         requires { (d < self.darts) × (e < self.darts) }
         ensures { (result ≡ taken (meant self) d e) × (result ≤ 2) }
     {
-        if self.ends[twin_of(d)] == self.ends[twin_of(e)] {
+        if self.end_post(d) == self.end_post(e) {
             2
         } else {
             1
@@ -177,7 +182,10 @@ impl Plate {
             return Err(Refusal::NoSuchStep);
         }
         self.check_new_post()?;
-        self.check_places(d, 1)
+        if self.is_full(d, 1) {
+            return Err(Refusal::PostFull);
+        }
+        Ok(())
     }
 
     // 35: no such darts, or darts that are equal or of two faces; 36: a strip too many; 37: no place left at one of their posts.
@@ -191,8 +199,13 @@ impl Plate {
             return Err(Refusal::PlateFull);
         }
         let more = self.taken_at(d, e);
-        self.check_places(d, more)?;
-        self.check_places(e, more)
+        if self.is_full(d, more) {
+            return Err(Refusal::PostFull);
+        }
+        if self.is_full(e, more) {
+            return Err(Refusal::PostFull);
+        }
+        Ok(())
     }
 
     // Strip `strip` now ends at a new post, and a new strip runs from there to its old end.

@@ -16,6 +16,7 @@ pub struct Strips {
 }
 
 // No strip gone over.
+#[tactic(auto, unfolding(crate::specs::Pass::no_strips))]
 pub fn no_strips() -> Strips
     ensures { result ≡ no_strips }
 {
