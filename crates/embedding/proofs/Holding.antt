@@ -218,6 +218,6 @@ module _ {p : Plate} {posts count : ℕ} {ends places degrees : List ℕ} {outer
         half_front =
             front_same (ap₂ (λ (x y : ℕ). put_before x y (take count order)) eu en ∙ ap (put_before (twin e) (suc (darts p))) (front_take front order_long)) c2
 
--- the plate that a plate as held stands for, and no other
+-- every plate as held stands for an accepted one
 pub standing : (q : Held) → Standing q
 standing q = (meant q, q.stands, q.accepted)

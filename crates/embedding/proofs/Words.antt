@@ -11,16 +11,13 @@ use Rattle.finite.proofs.Lent.{rest_lent}
 use Rattle.std.proofs.Common.{cond, Option, Some, None, unwrap_or, position}
 use Rattle.std.specs.List.{list_any, position_or_len}
 use Rattle.std.proofs.lemmas.List.Recursion.{is_position_or_len}
-use Rattle.finite.proofs.Tests.{same_test}
+use Rattle.finite.proofs.Tests.{eqb_turned}
 use Rattle.embedding.specs.Plates.{is_in}
 use Rattle.embedding.specs.Meant.{place_of}
 
-eqb-swap : (x y : ℕ) → eqb y x ≡ eqb x y
-eqb-swap x y = same_test (eqb y x) (eqb x y) (λ e. eq-eqb x y (sym (eqb-true y x e))) (λ e. eq-eqb y x (sym (eqb-true x y e)))
-
 contains_is : (x : ℕ) (ys : List ℕ) → list_any (λ y. eqb y x) ys ≡ is_in x ys
 contains_is x [] = refl
-contains_is x (y ∷ ys) = ap (λ (b : Bool). b || list_any (λ z. eqb z x) ys) (eqb-swap x y) ∙ ap (λ (b : Bool). eqb x y || b) (contains_is x ys)
+contains_is x (y ∷ ys) = ap (λ (b : Bool). b || list_any (λ z. eqb z x) ys) (eqb_turned y x) ∙ ap (λ (b : Bool). eqb x y || b) (contains_is x ys)
 
 -- in the rest of a list
 pub contained : (x : ℕ) (s : List ℕ) (from : ℕ) → list_any (λ y. eqb y x) (take (length s - from) (drop from s)) ≡ is_in x (drop from s)

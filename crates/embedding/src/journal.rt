@@ -145,7 +145,7 @@ impl Plate {
         4 < usize::from(self.degrees[v]) + more
     }
 
-    // How many places a join takes at the post where `d` ends. The two darts go by themselves: what is asked of them differs.
+    // How many places a join takes at the post where `d` ends. Its darts are no struct: they are the two numbers of `Step::Join`.
     fn taken_at(self, d: usize, e: usize) -> usize
         requires { (d < self.darts) × (e < self.darts) }
         ensures { (result ≡ taken (meant self) d e) × (result ≤ 2) }

@@ -54,6 +54,7 @@ fn read_post(ends: &[u8], v: usize, part: &[u8]) -> Option<[u8; 4]>
     }
 }
 
+// The rows one after the other.
 fn flatten(rows: [[u8; 4]; 64]) -> [u8; 256]
     ensures { Table 256 (λ i. get_or (get_or rows (i / 4) []) (i % 4) 0) result }
 {
