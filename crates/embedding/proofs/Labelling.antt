@@ -76,16 +76,12 @@ pub opened : (f : ℕ → ℕ) (k d at : ℕ) → length (walk f (suc k) d at) �
 opened f zero d at l = absurd (omega arith)
 opened f (suc j) d at l = (j, refl)
 
-module _ {next : List ℕ} {n d number : ℕ} {face₀ : List ℕ} {met₀ : List Bool} (o : OneToOne (next_of next) n) (l : d < n) (b : n ≤ 256) where
-  done_small : (done : List ℕ) (fuel at : ℕ) → orbit (next_of next) n d ≡ done ++ walk (next_of next) (suc fuel) d at → length done < n
-  done_small done fuel at whole =
-      omega (
-        arith,
-        ap length whole,
-        length-append done (walk (next_of next) (suc fuel) d at),
-        at_most n (orbit (next_of next) n d) (orbit_distinct (next_of next) n o d l) (orbit_all_below (next_of next) n o d l),
-      )
+-- the darts done, with some left
+done_small : (f : ℕ → ℕ) (n d : ℕ) → OneToOne f n → d < n → (done : List ℕ) (fuel at : ℕ) → orbit f n d ≡ done ++ walk f (suc fuel) d at → length done < n
+done_small f n d o l done fuel at whole =
+    omega (arith, ap length whole, length-append done (walk f (suc fuel) d at), at_most n (orbit f n d) (orbit_distinct f n o d l) (orbit_all_below f n o d l))
 
+module _ {next : List ℕ} {n d number : ℕ} {face₀ : List ℕ} {met₀ : List Bool} (o : OneToOne (next_of next) n) (l : d < n) (b : n ≤ 256) where
   pub labelling_start : length face₀ ≡ 256 → length met₀ ≡ 256 → Labelling next n d number face₀ met₀ face₀ met₀ 0 d
   labelling_start p q =
       let j = opened (next_of next) n d d (short (next_of next) n o d l) in
@@ -120,8 +116,8 @@ module _ {next : List ℕ} {n d number : ℕ} {face₀ : List ℕ} {met₀ : Lis
         let left : length (walk (next_of next) (suc h.fuel) d (next_of next at)) ≤ h.fuel = omega (arith, h.ends, ap length (goes (next_of next) (suc h.fuel) d at q)) in
         let j = opened (next_of next) h.fuel d (next_of next at) left in
         let all : orbit (next_of next) n d ≡ (h.done ++ (at ∷ [])) ++ walk (next_of next) (suc j.0) d w = h.whole
-            ∙ ap (λ (r : List ℕ). h.done ++ (at ∷ r)) (goes (next_of next) h.fuel d at q ∙ ap₂ (λ (k x : ℕ). walk (next_of next) k d x) j.1 (sym e))
-            ∙ sym (append_assoc h.done (at ∷ []) (walk (next_of next) (suc j.0) d w)) in
+        ∙ ap (λ (r : List ℕ). h.done ++ (at ∷ r)) (goes (next_of next) h.fuel d at q ∙ ap₂ (λ (k x : ℕ). walk (next_of next) k d x) j.1 (sym e))
+        ∙ sym (append_assoc h.done (at ∷ []) (walk (next_of next) (suc j.0) d w)) in
         record {
           done = h.done ++ (at ∷ []);
           fuel = j.0;
@@ -129,6 +125,6 @@ module _ {next : List ℕ} {n d number : ℕ} {face₀ : List ℕ} {met₀ : Lis
           ends = subst (λ (x : ℕ). length (walk (next_of next) (suc (suc j.0)) d x) ≤ suc j.0) (sym e) (subst (λ (k : ℕ). length (walk (next_of next) (suc k) d (next_of next at)) ≤ k) j.1 left);
           at_below = subst (λ (x : ℕ). x < n) (sym e) (o.below at h.at_below);
           sized = omega (arith, h.sized, length-append h.done (at ∷ []));
-          small = omega (arith, h.sized, length-append h.done (at ∷ []), done_small (h.done ++ (at ∷ [])) j.0 w all);
+          small = omega (arith, h.sized, length-append h.done (at ∷ []), done_small (next_of next) n d o l (h.done ++ (at ∷ [])) j.0 w all);
           marked = marked_more number h.done face₀ met₀ face met at (omega (arith, h.at_below)) h.marked;
         }

@@ -1,5 +1,5 @@
 -- Plates: darts, faces, refusals 7 to 15.
-use Rattle.std.specs.Prelude.{Bool, true, false, ◌&&◌, ◌||◌, not, List, [], ◌∷◌, ◌++◌, ℕ, zero, suc, ◌+◌, ◌-◌, ◌/◌, ◌%◌, eqb, ltb, leb, length, get_or, take, drop}
+use Rattle.std.specs.Prelude.{Bool, true, false, ◌&&◌, ◌||◌, not, List, [], ◌∷◌, ◌++◌, ℕ, zero, suc, ◌+◌, ◌/◌, eqb, ltb, leb, length, get_or, take, drop}
 pub use Rattle.maps.specs.Maps.{twin}
 pub use Rattle.finite.specs.Base.{pick, pick_t, first_of, when, is_in, all_below, distinct, last_of, is_lowest}
 

@@ -1,7 +1,6 @@
 -- `label_face` meets its contract: the walk from dart d closes, and each of its darts is labelled.
 use mathlib.Core.Path.{sym, ◌∙◌}
 use Rattle.embedding.proofs.Labelling.{labelling_start, labelling_done, labelling_more}
-use native.Mathlib.Omega.{arith}
 use Rattle.embedding.proofs.labels.Walk.label_face.Goals as goal
 
 pub loop-at-init : goal.loop-at-init
