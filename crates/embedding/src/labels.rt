@@ -1,5 +1,5 @@
 //! The faces, each walked from its lowest dart.
-ghost use Rattle.std.specs.Prelude.{◌≡◌, ℕ, ◌<◌, ◌≤◌, length};
+ghost use Rattle.std.specs.Prelude.{◌≡◌, ℕ, ◌<◌, ◌≤◌, length, take};
 ghost use Rattle.finite.specs.Walks.{OneToOne};
 ghost use Rattle.embedding.specs.Plates.{Plate as PlateOf};
 ghost use Rattle.embedding.specs.Steps.{next_of, FaceLabelled};
@@ -21,6 +21,17 @@ pub struct Labelled {
     pub met: [bool; 256],
     pub sizes: [u16; 256],
     pub faces: usize,
+}
+
+impl Labelled {
+    // The sizes of the first 66 faces: a plane plate has no more.
+    pub fn first_sizes(&self) -> [u16; 66]
+        ensures { result ≡ take 66 self.now.sizes }
+    {
+        let mut sizes = [0; 66];
+        sizes.copy_from_slice(&self.sizes[..66]);
+        sizes
+    }
 }
 
 impl Walk {

@@ -41,9 +41,7 @@ impl Lists<'_> {
         requires { Past self.now.posts self.now.ends.now degrees }
         ensures { Reads (plate self.now.posts self.now.ends.now self.now.order.now self.now.outer) result }
     {
-        let posts = self.posts;
-        let ends = self.ends;
-        let darts = ends.len();
+        let darts = self.ends.len();
         if self.order.len() != darts {
             return Err(Refusal::ClockwiseOrder);
         }
@@ -52,36 +50,30 @@ impl Lists<'_> {
             return Err(Refusal::OuterDart);
         }
         let ordered = Ordered {
-            posts,
-            ends,
+            posts: self.posts,
+            ends: self.ends,
             places,
             degrees,
         };
-        if ordered.reach_count() != posts {
+        if ordered.reach_count() != self.posts {
             return Err(Refusal::NotConnected);
         }
-        let walk = Walk {
-            darts,
-            next: ordered.next_darts(),
-        };
-        let labelled = walk.faces();
-        let faces = labelled.faces;
-        if posts + faces != darts / 2 + 2 {
+        let next = ordered.next_darts();
+        let labelled = Walk { darts, next }.faces();
+        if self.posts + labelled.faces != darts / 2 + 2 {
             return Err(Refusal::NotPlane);
         }
-        let mut sizes = [0; 66];
-        sizes.copy_from_slice(&labelled.sizes[..66]);
         Ok(Plate {
-            posts,
+            posts: self.posts,
             darts,
-            ends: padded(ends),
+            ends: padded(self.ends),
             places,
             degrees,
             outer: self.outer,
-            next: walk.next,
+            next,
             face: labelled.face,
-            faces,
-            sizes,
+            faces: labelled.faces,
+            sizes: labelled.first_sizes(),
         })
     }
 }
