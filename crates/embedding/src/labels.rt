@@ -24,8 +24,8 @@ pub struct Labelled {
 }
 
 impl Labelled {
-    // The sizes of the first 66 faces: a plane plate has no more.
-    pub fn first_sizes(&self) -> [u16; 66]
+    // The sizes as a plate keeps them: those of the first 66 faces.
+    pub fn plate_sizes(&self) -> [u16; 66]
         ensures { result ≡ take 66 self.now.sizes }
     {
         let mut sizes = [0; 66];

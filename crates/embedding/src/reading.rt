@@ -73,7 +73,7 @@ impl Lists<'_> {
             next,
             face: labelled.face,
             faces: labelled.faces,
-            sizes: labelled.first_sizes(),
+            sizes: labelled.plate_sizes(),
         })
     }
 }

@@ -14,7 +14,7 @@ use Rattle.embedding.proofs.Counting.{few_most}
 use Rattle.embedding.proofs.Holding.{stands-meant, held_stands, held_accepted}
 use Rattle.embedding.proofs.Whole.{Early, early, ends_below, PastOrder, refused_15, no_fault, next_follows, next_one, sizes_first, faces_most}
 use Rattle.embedding.proofs.reading.Lists.read_rest.Goals as goal
-use Rattle.embedding.proofs.reading.Lists.read_rest.Goals.{Else-darts-from, After-faces-labelled, After-first_sizes}
+use Rattle.embedding.proofs.reading.Lists.read_rest.Goals.{Else-darts-from, After-faces-labelled, After-plate_sizes}
 
 -- past 12
 module _ (c : Else-darts-from) where
@@ -81,12 +81,12 @@ returns-then-self-labelled c =
     refused_15 (past_order s) (inner s) (joined l) (λ e. c.if-self-labelled.true (ap (λ (k : ℕ). n + k) (labels l (past_order s) (places s)).count ∙ e))
 
 -- the plate
-module _ (c : After-first_sizes) where
+module _ (c : After-plate_sizes) where
   abbrev r : Plate
   r = plate c.args.self.now.posts c.args.self.now.ends.now c.args.self.now.order.now c.args.self.now.outer
 
   whole : Table 256 (place_in r) c.in_ok-places.places → Follows r (darts r) c.next_darts-next.result → FacesLabelled r c.faces-labelled.result
-      → StandFor r c.args.self.now.posts (length c.args.self.now.ends.now) c.padded.result c.in_ok-places.places c.args.degrees c.args.self.now.outer c.next_darts-next.result c.faces-labelled.result.face c.faces-labelled.result.faces c.first_sizes.result
+      → StandFor r c.args.self.now.posts (length c.args.self.now.ends.now) c.padded.result c.in_ok-places.places c.args.degrees c.args.self.now.outer c.next_darts-next.result c.faces-labelled.result.face c.faces-labelled.result.faces c.plate_sizes.result
   whole t f l =
       record {
         same_posts = refl;
@@ -98,7 +98,7 @@ module _ (c : After-first_sizes) where
         next-darts = f.table;
         face_numbers = l.face;
         face_count = l.count;
-        face_sizes = rw c.first_sizes.ensures (sizes_first r l.sizes);
+        face_sizes = rw c.plate_sizes.ensures (sizes_first r l.sizes);
       }
 
   accepted : PastOrder r c.args.degrees → r.outer < darts r → length (reach r.posts r (0 ∷ [])) ≡ r.posts → FacesLabelled r c.faces-labelled.result → Accepted r
@@ -108,7 +108,7 @@ pub invariant_of-result : goal.invariant_of-result
 invariant_of-result c =
     let s = (goal.at.invariant_of-result c).Else-darts-from in
     let l = (goal.at.invariant_of-result c).After-faces-labelled in
-    let e = (goal.at.invariant_of-result c).After-first_sizes in
+    let e = (goal.at.invariant_of-result c).After-plate_sizes in
     let k = whole e (places s) (follows l (past_order s) (places s)) (labels l (past_order s) (places s)) in
     let a = accepted e (past_order s) (inner s) (joined l) (labels l (past_order s) (places s)) in
     record { stands = held_stands k a; accepted = held_accepted k a }
@@ -117,7 +117,7 @@ pub returns : goal.returns
 returns c =
     let s = (goal.at.returns c).Else-darts-from in
     let l = (goal.at.returns c).After-faces-labelled in
-    let e = (goal.at.returns c).After-first_sizes in
+    let e = (goal.at.returns c).After-plate_sizes in
     let k = whole e (places s) (follows l (past_order s) (places s)) (labels l (past_order s) (places s)) in
     let a = accepted e (past_order s) (inner s) (joined l) (labels l (past_order s) (places s)) in
     record { number = sym a.no_fault; plate = stands-meant k a }
