@@ -4,7 +4,7 @@ use mathlib.Core.HLevel.{is_prop→PathP}
 use denote.Struct.Props.{props}
 use Rattle.std.proofs.Common.{Result, Ok, Err}
 use Rattle.refusals.specs.declared.Refusal.{Refusal}
-use Rattle.embedding.specs.Steps.{place_in}
+use Rattle.embedding.specs.Meant.{place_in}
 use Rattle.embedding.specs.Read.{Stands, Reads}
 use Rattle.embedding.specs.declared.Plate.{Plate as Held}
 use Rattle.finite.specs.Tables.{up_to}
@@ -24,7 +24,8 @@ use Rattle.embedding.proofs.Rotation.{Ordered}
 use Rattle.embedding.proofs.Faces.{lead_in_faces}
 use Rattle.embedding.proofs.Faultless.{Faultless}
 use Rattle.embedding.proofs.Degrees.{darts_most}
-use Rattle.embedding.proofs.Numbers.{number_some, number_only}
+use Rattle.refusals.proofs.Numbered.{some_number}
+use Rattle.refusals.proofs.OneNumber.{same_refusal}
 
 -- what a plate keeps has one proof
 stand_prop : (p : Plate) (posts count : ℕ) (ends places degrees : List ℕ) (outer : ℕ) (next face : List ℕ) (face_total : ℕ) (sizes : List ℕ)
@@ -87,9 +88,9 @@ module _ (p : Plate) (q r : Held) (s : Stands q p) (t : Stands r p) where
 -- one answer to a plate
 pub reads_only : (p : Plate) (r s : Result Held Refusal) → Reads p r → Reads p s → r ≡ s
 reads_only p (Ok q) (Ok r) h k = ap (λ (z : Held). Ok z) (stands_only p q r (subst (Stands q) h.plate q.stands) (subst (Stands r) k.plate r.stands))
-reads_only p (Ok q) (Err e) h k = absurd (number_some e (k.number ∙ sym h.number))
-reads_only p (Err e) (Ok q) h k = absurd (number_some e (h.number ∙ sym k.number))
-reads_only p (Err e) (Err f) h k = ap (λ (z : Refusal). Err z) (number_only e f (h.number ∙ sym k.number))
+reads_only p (Ok q) (Err e) h k = absurd (some_number e (k.number ∙ sym h.number))
+reads_only p (Err e) (Ok q) h k = absurd (some_number e (h.number ∙ sym k.number))
+reads_only p (Err e) (Err f) h k = ap (λ (z : Refusal). Err z) (same_refusal e f (h.number ∙ sym k.number))
 
 -- a face's number leads back to its lowest dart
 pub place_hit : (x y : ℕ) (ys : List ℕ) → x ≡ y → place_of x (y ∷ ys) ≡ 0

@@ -15,7 +15,8 @@ use Rattle.finite.specs.Tables.{Table, up_to}
 use Rattle.finite.proofs.Tables.{table_cong, up_below, up_from, up_more}
 use Rattle.finite.proofs.Tests.{equal_or_not, and_assoc}
 use Rattle.embedding.specs.Plates.{Plate, plate, degree_from, degree, before, part_of, distinct, all_leave, parts_ok}
-use Rattle.embedding.specs.Steps.{Few, PostRead, place_in, OrderRead}
+use Rattle.embedding.specs.Steps.{Few, PostRead, OrderRead}
+use Rattle.embedding.specs.Meant.{place_in}
 use Rattle.embedding.proofs.Rotation.{before_most}
 
 -- a test of all posts that goes from post to post, n - v of them left at v

@@ -7,17 +7,17 @@ use mathlib.Core.Logic.{⊎_elim}
 use Prim.Native.Nat.{ℕ, suc, ◌+◌, ◌-◌, ◌*◌, ◌≤◌, ◌<◌}
 use native.Mathlib.Omega.{arith}
 use lib.ListN.{length, get_or, take, drop, set, length-set, length-append, length-drop}
-use lib.Seq.{take_all, take-suc-set, take-set-lt, length-take-le}
-use Rattle.finite.proofs.Tests.{either, equal_or_not, not_true_false}
+use lib.Seq.{take_all, take-set-lt, length-take-le}
+use Rattle.finite.proofs.Tests.{either, not_true_false}
 use Rattle.embedding.specs.Plates.{is_in, distinct, Plate, plate}
 use Rattle.embedding.specs.Read.{place_of, Reads}
 use Rattle.embedding.specs.Edits.{laid, put_before, renamed}
-use Rattle.embedding.specs.Arrays.{Front, Appended, row_in, Listed}
+use Rattle.embedding.specs.Arrays.{Front, Appended, Listed}
+use Rattle.embedding.specs.Meant.{row_in}
 use Rattle.refusals.specs.declared.Refusal.{Refusal}
 use Rattle.embedding.specs.declared.Plate.{Plate as Held}
 use Rattle.embedding.proofs.Placing.{put_none}
 use Rattle.embedding.proofs.Flat.{place_none, place_some, put_placed, renamed_none, renamed_placed}
-use Rattle.embedding.proofs.Answers.{place_hit, place_miss}
 
 pub front_none : (xs : List ℕ) → length xs ≡ 256 → Front [] xs
 front_none xs e = record { size = e; front = refl }
@@ -28,15 +28,6 @@ front_same {xs = xs} e = subst (λ (k : List ℕ). Front k xs) e
 pub front_take : {l xs : List ℕ} {k : ℕ} → Front l xs → length l ≡ k → take k xs ≡ l
 front_take {l} {xs} f e = ap (λ (j : ℕ). take j xs) (sym e) ∙ f.front
 
--- one more behind it
-pub front_one : {l xs : List ℕ} (at a : ℕ) → Front l xs → length l ≡ at → at < 256 → Front (l ++ (a ∷ [])) (set xs at a)
-front_one {l} {xs} at a f e k =
-    record {
-      size = length-set xs at a ∙ f.size;
-      front = ap (λ (j : ℕ). take j (set xs at a)) {x = length (l ++ (a ∷ []))} {y = suc at} (omega (arith, length-append l (a ∷ [])))
-          ∙ take-suc-set xs at a (omega (arith, f.size)) ∙ ap (λ (m : List ℕ). m ++ (a ∷ [])) (front_take f e);
-    }
-
 -- one of it changed
 pub front_set : {l xs : List ℕ} (i y : ℕ) → Front l xs → i < length l → Front (set l i y) (set xs i y)
 front_set {l} {xs} i y f k =
@@ -44,10 +35,6 @@ front_set {l} {xs} i y f k =
       size = length-set xs i y ∙ f.size;
       front = ap (λ (j : ℕ). take j (set xs i y)) (length-set l i y) ∙ take-set-lt (length l) xs i y k ∙ ap (λ (m : List ℕ). set m i y) f.front;
     }
-
-pub place_most : (x : ℕ) (s : List ℕ) → place_of x s ≤ length s
-place_most x [] = omega arith
-place_most x (y ∷ s) = ⊎_elim (λ e. omega (arith, place_hit x y s e)) (λ e. omega (arith, place_miss x y s e, place_most x s)) (equal_or_not x y)
 
 -- y put in before x
 pub put_there : (x y : ℕ) (s : List ℕ) (at : ℕ) {zeros before with all : List ℕ} → at ≡ place_of x s → at < length s → length zeros ≡ 256

@@ -9,11 +9,11 @@ use lib.ListN.{length, get_or, take, set, length-set, length-append}
 use lib.Seq.{ext_get_or, get_or-take, length-take-le}
 use Rattle.embedding.specs.Plates.{is_in, Plate, plate, darts, twin, ends_at, degree, part_of, distinct}
 use Rattle.embedding.specs.Steps.{Few}
-use Rattle.embedding.specs.Meant.{StandFor, held, Accepted}
-use Rattle.embedding.specs.Read.{meant, Stands, Standing}
+use Rattle.embedding.specs.Meant.{StandFor, held, row_in, Accepted}
+use Rattle.embedding.specs.Read.{meant, Standing}
 use Rattle.embedding.specs.declared.Plate.{Plate as Held}
 use Rattle.embedding.specs.Edits.{laid, put_before, renamed, split, hang, join}
-use Rattle.embedding.specs.Arrays.{Front, Appended, row_in, Listed}
+use Rattle.embedding.specs.Arrays.{Front, Appended, Listed}
 use Rattle.embedding.proofs.Rotation.{Ordered, twin_dart, own_part, leaves_below}
 use Rattle.embedding.proofs.Faultless.{Faultless, faultless}
 use Rattle.embedding.proofs.Answers.{faces_fit}
@@ -91,15 +91,15 @@ module _ {p : Plate} {posts count : ℕ} {ends places degrees : List ℕ} {outer
   order_long = f.all_ordered ∙ sym s.dart_count
 
   -- the plate that they stand for is this one
-  pub held_is : held posts count ends places degrees outer ≡ p
+  pub stands-meant : held posts count ends places degrees outer ≡ p
   unfolding held
-  held_is = λ i. record { posts = s.same_posts i; ends = front_take held_ends (sym s.dart_count) i; order = held_order i; outer = s.outer_dart i }
+  stands-meant = λ i. record { posts = s.same_posts i; ends = front_take held_ends (sym s.dart_count) i; order = held_order i; outer = s.outer_dart i }
 
   pub held_stands : StandFor (held posts count ends places degrees outer) posts count ends places degrees outer next face face_total sizes
-  held_stands = subst (λ (r : Plate). StandFor r posts count ends places degrees outer next face face_total sizes) (sym held_is) s
+  held_stands = subst (λ (r : Plate). StandFor r posts count ends places degrees outer next face face_total sizes) (sym stands-meant) s
 
   pub held_accepted : Accepted (held posts count ends places degrees outer)
-  held_accepted = subst Accepted (sym held_is) a
+  held_accepted = subst Accepted (sym stands-meant) a
 
   -- split
   module _ (t : ℕ) (l : suc (2 * t) < count) where
@@ -218,9 +218,6 @@ module _ {p : Plate} {posts count : ℕ} {ends places degrees : List ℕ} {outer
         half_front =
             front_same (ap₂ (λ (x y : ℕ). put_before x y (take count order)) eu en ∙ ap (put_before (twin e) (suc (darts p))) (front_take front order_long)) c2
 
--- the plate that a plate as held stands for, and no other
+-- every plate as held stands for an accepted one
 pub standing : (q : Held) → Standing q
 standing q = (meant q, q.stands, q.accepted)
-
-pub stands-meant : (q : Held) {p : Plate} → Stands q p → Accepted p → meant q ≡ p
-stands-meant q s a = held_is s a

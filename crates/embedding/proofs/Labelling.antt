@@ -68,12 +68,18 @@ pub record Labelling (next : List ℕ) (n d number : ℕ) (face₀ : List ℕ) (
   pub ends : length (walk (next_of next) (suc (suc fuel)) d at) ≤ suc fuel
   pub at_below : at < n
   pub sized : size ≡ length done
+  pub small : size < n
   pub marked : Marked number done face₀ met₀ face met
 
 -- the fuel that is needed is there
 pub opened : (f : ℕ → ℕ) (k d at : ℕ) → length (walk f (suc k) d at) ≤ k → (j : ℕ) × (k ≡ suc j)
 opened f zero d at l = absurd (omega arith)
 opened f (suc j) d at l = (j, refl)
+
+-- the darts done, with some left
+done_small : (f : ℕ → ℕ) (n d : ℕ) → OneToOne f n → d < n → (done : List ℕ) (fuel at : ℕ) → orbit f n d ≡ done ++ walk f (suc fuel) d at → length done < n
+done_small f n d o l done fuel at whole =
+    omega (arith, ap length whole, length-append done (walk f (suc fuel) d at), at_most n (orbit f n d) (orbit_distinct f n o d l) (orbit_all_below f n o d l))
 
 module _ {next : List ℕ} {n d number : ℕ} {face₀ : List ℕ} {met₀ : List Bool} (o : OneToOne (next_of next) n) (l : d < n) (b : n ≤ 256) where
   pub labelling_start : length face₀ ≡ 256 → length met₀ ≡ 256 → Labelling next n d number face₀ met₀ face₀ met₀ 0 d
@@ -86,20 +92,11 @@ module _ {next : List ℕ} {n d number : ℕ} {face₀ : List ℕ} {met₀ : Lis
         ends = subst (λ (k : ℕ). length (walk (next_of next) (suc k) d d) ≤ k) j.1 (short (next_of next) n o d l);
         at_below = l;
         sized = refl;
+        small = omega arith;
         marked = record { face_long = p; met_long = q; face_at = λ x. refl; met_at = λ x. refl };
       }
 
   module _ {face : List ℕ} {met : List Bool} {size at : ℕ} (h : Labelling next n d number face₀ met₀ face met size at) where
-    pub size_below : size < n
-    size_below =
-        omega (
-          arith,
-          h.sized,
-          ap length h.whole,
-          length-append h.done (walk (next_of next) (suc h.fuel) d at),
-          at_most n (orbit (next_of next) n d) (orbit_distinct (next_of next) n o d l) (orbit_all_below (next_of next) n o d l),
-        )
-
     pub labelling_done : next_of next at ≡ d → FaceLabelled next n d number face₀ met₀ (set face at number) (set met at true) (size + 1)
     labelling_done q =
         record {
@@ -118,13 +115,16 @@ module _ {next : List ℕ} {n d number : ℕ} {face₀ : List ℕ} {met₀ : Lis
     labelling_more {w} q e =
         let left : length (walk (next_of next) (suc h.fuel) d (next_of next at)) ≤ h.fuel = omega (arith, h.ends, ap length (goes (next_of next) (suc h.fuel) d at q)) in
         let j = opened (next_of next) h.fuel d (next_of next at) left in
+        let all : orbit (next_of next) n d ≡ (h.done ++ (at ∷ [])) ++ walk (next_of next) (suc j.0) d w = h.whole
+        ∙ ap (λ (r : List ℕ). h.done ++ (at ∷ r)) (goes (next_of next) h.fuel d at q ∙ ap₂ (λ (k x : ℕ). walk (next_of next) k d x) j.1 (sym e))
+        ∙ sym (append_assoc h.done (at ∷ []) (walk (next_of next) (suc j.0) d w)) in
         record {
           done = h.done ++ (at ∷ []);
           fuel = j.0;
-          whole = h.whole ∙ ap (λ (r : List ℕ). h.done ++ (at ∷ r)) (goes (next_of next) h.fuel d at q ∙ ap₂ (λ (k x : ℕ). walk (next_of next) k d x) j.1 (sym e))
-              ∙ sym (append_assoc h.done (at ∷ []) (walk (next_of next) (suc j.0) d w));
+          whole = all;
           ends = subst (λ (x : ℕ). length (walk (next_of next) (suc (suc j.0)) d x) ≤ suc j.0) (sym e) (subst (λ (k : ℕ). length (walk (next_of next) (suc k) d (next_of next at)) ≤ k) j.1 left);
           at_below = subst (λ (x : ℕ). x < n) (sym e) (o.below at h.at_below);
           sized = omega (arith, h.sized, length-append h.done (at ∷ []));
+          small = omega (arith, h.sized, length-append h.done (at ∷ []), done_small (next_of next) n d o l (h.done ++ (at ∷ [])) j.0 w all);
           marked = marked_more number h.done face₀ met₀ face met at (omega (arith, h.at_below)) h.marked;
         }

@@ -11,10 +11,8 @@ pub mod Example
 pub mod Fronts
 pub mod Counting
 pub mod Reaching
-pub mod Rounds
 pub mod Labelling
 pub mod Numbering
-pub mod Numbers
 pub mod Whole
 pub mod Answers
 pub mod Loops

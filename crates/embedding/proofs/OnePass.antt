@@ -14,7 +14,7 @@ use Rattle.finite.specs.Tables.{Table, up_to}
 use Rattle.finite.proofs.Tables.{table_cong, table_set, up_below, up_cong}
 use Rattle.finite.proofs.Tests.{equal_or_not, or_right, first_none, first_assoc, when_none}
 use Rattle.embedding.specs.Plates.{pick, first_of, when, Plate, darts, degree_from, degree, all_below, over_four, plate_fault}
-use Rattle.embedding.specs.Pass.{no_strips, add_strip, go_on, state_of, stopped_after, first_met, answer_of, strips_fault, early_fault, late_fault, pass_fault, GoneOn, Answered}
+use Rattle.embedding.specs.Pass.{no_strips, add_strip, go_on, state_of, stopped_after, nine_first, answer_of, strips_fault, early_fault, late_fault, pass_fault, GoneOn, Answered}
 use Rattle.embedding.specs.Steps.{Few}
 use Rattle.embedding.specs.declared.strips.Strips.{Strips}
 use Rattle.embedding.proofs.Fronts.{two_front}
@@ -188,7 +188,7 @@ module _ (p : Plate) (even : darts p % 2 ≡ 0) where
 
     -- the answer of the pass is that of the definitions
     pub answered : answer_of state ≡ strips_fault p
-    answered = ap (λ (t : Bool). first_met t state.over) stray_is ∙ ap (first_met (not (all_below p.posts p.ends))) over_is
+    answered = ap (λ (t : Bool). nine_first t state.over) stray_is ∙ ap (nine_first (not (all_below p.posts p.ends))) over_is
 
     -- also where it was stopped after any strip
     pub answered_after : (k : ℕ) → answer_of (stopped_after k p.posts p.ends) ≡ strips_fault p

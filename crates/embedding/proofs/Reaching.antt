@@ -1,5 +1,5 @@
 -- Posts reached, as marks: a strip, a round, all rounds.
-use mathlib.Core.Path.{◌≡◌, refl, sym, ap, subst, ◌∙◌}
+use mathlib.Core.Path.{◌≡◌, refl, sym, ap, ◌∙◌}
 use mathlib.Core.Bool.{Bool, true, false, ◌&&◌, ◌||◌, not}
 use mathlib.Core.List.{List, [], ◌∷◌}
 use mathlib.Core.Logic.{⊎_elim}
@@ -30,38 +30,6 @@ marks_more l s v b m =
       count = omega (arith, m.count);
     }
 
-module _ {a b : ℕ} (x : a < 64) (y : b < 64) (s : Seen) where
-  pub join_same : (t : Bool) → get_or s.seen a false ≡ t → get_or s.seen b false ≡ t → Joined a b s s
-  join_same t i j =
-      record {
-        marks = λ l m. subst (λ (k : List ℕ). Marks k s) (sym (by t (is_in a l) (is_in b l) l (sym (m.at a x) ∙ i) (sym (m.at b y) ∙ j))) m;
-        most = omega arith;
-      }
-    where
-      by : (t u v : Bool) (l : List ℕ) → u ≡ t → v ≡ t → pick (u && not v) (b ∷ l) (pick (v && not u) (a ∷ l) l) ≡ l
-      by true u v l p q = rw (p, q)
-      by false u v l p q = rw (p, q)
-
-  pub join_second : get_or s.seen a false ≡ true → get_or s.seen b false ≡ false → Joined a b s (record { seen = set s.seen b true; count = s.count + 1 })
-  join_second i j =
-      record {
-        marks = λ l m. subst (λ (k : List ℕ). Marks k (record { seen = set s.seen b true; count = s.count + 1 })) (by (is_in a l) (is_in b l) l (sym (m.at a x) ∙ i) (sym (m.at b y) ∙ j)) (marks_more l s b y m);
-        most = omega arith;
-      }
-    where
-      by : (u v : Bool) (l : List ℕ) → u ≡ true → v ≡ false → b ∷ l ≡ pick (u && not v) (b ∷ l) (pick (v && not u) (a ∷ l) l)
-      by u v l p q = rw (p, q)
-
-  pub join_first : get_or s.seen a false ≡ false → get_or s.seen b false ≡ true → Joined a b s (record { seen = set s.seen a true; count = s.count + 1 })
-  join_first i j =
-      record {
-        marks = λ l m. subst (λ (k : List ℕ). Marks k (record { seen = set s.seen a true; count = s.count + 1 })) (by (is_in a l) (is_in b l) l (sym (m.at a x) ∙ i) (sym (m.at b y) ∙ j)) (marks_more l s a x m);
-        most = omega arith;
-      }
-    where
-      by : (u v : Bool) (l : List ℕ) → u ≡ false → v ≡ true → a ∷ l ≡ pick (u && not v) (b ∷ l) (pick (v && not u) (a ∷ l) l)
-      by u v l p q = rw (p, q)
-
 -- in a round that began with the posts l: the posts when these strips are left
 pub record Rounding (e l left : List ℕ) (r : Seen) : Type 0 where
   pub posts : List ℕ
@@ -76,14 +44,6 @@ rounding_more {e} {l} {left} {a} {b} h k p q j =
       rest = ap (λ (c : ℕ). joins (drop 2 left) (join_one c b h.posts)) p ∙ ap (λ (c : ℕ). joins (drop 2 left) (join_one (get_or left 0 0) c h.posts)) q
           ∙ ap (λ (es : List ℕ). joins es h.posts) (sym (two_front left 0 k)) ∙ h.rest;
     }
-
-joins_short : (e l : List ℕ) → length e ≤ 1 → joins e l ≡ l
-joins_short [] l k = refl
-joins_short (a ∷ []) l k = refl
-joins_short (a ∷ (b ∷ e)) l k = absurd (omega arith)
-
-pub rounding_done : {e l left : List ℕ} {r : Seen} → Rounding e l left r → length left ≤ 1 → Marks (joins e l) r
-rounding_done {e} {l} {left} {r} h k = subst (λ (x : List ℕ). Marks x r) (sym (joins_short left h.posts k) ∙ h.rest) h.marks
 
 -- the ends of the first strip, and of those behind it
 pub below_front : (n : ℕ) (left : List ℕ) → 1 < length left → all_below n left ≡ true → (get_or left 0 0 < n) × (get_or left 1 0 < n) × (all_below n (drop 2 left) ≡ true)

@@ -1,16 +1,16 @@
--- Refusals 35 to 37 of a step, from tests of the plate as held; the verdict of a step.
+-- What a step is refused by, from the plate as held; the verdict of a step.
 use mathlib.Core.Path.{◌≡◌, refl, sym, ap, subst, ◌∙◌}
-use mathlib.Core.Bool.{Bool, true, false, ◌||◌, not}
-use Prim.Native.Nat.{ℕ, suc, ◌+◌, ◌/◌, ◌≤◌, ◌<◌}
+use mathlib.Core.Bool.{Bool, true, false, not}
+use Prim.Native.Nat.{ℕ, ◌<◌}
 use native.Mathlib.Omega.{arith}
-use borrow.Author.Tests.{eqb-true, eq-eqb, ne_eqb, ltb-true, ltb-false, lt-ltb, le-ltb, le-leb, lt-leb}
-use lib.Dec.{eqb, ltb, leb}
+use borrow.Author.Tests.{eqb-true, eq-eqb, ne_eqb, lt-leb}
+use lib.Dec.{eqb}
 use lib.ListN.{get_or}
 use Rattle.finite.proofs.Tables.{up_below}
-use Rattle.finite.proofs.Tests.{same_test, not_both, first_assoc}
-use Rattle.embedding.specs.Plates.{first_of, when, is_in, Plate, darts, strips, twin, ends_at, degree, face_of, faces}
+use Rattle.finite.proofs.Tests.{same_test}
+use Rattle.embedding.specs.Plates.{is_in, Plate, darts, twin, ends_at, degree, face_of, faces}
 use Rattle.embedding.specs.Read.{meant, Stands, Reads, Accepted, lead, place_of, face_number}
-use Rattle.embedding.specs.Edits.{no_post, no_strip, taken, full, no_face, hang_fault, join_fault}
+use Rattle.embedding.specs.Edits.{no_face}
 use Rattle.embedding.specs.Journal.{SteppedTo}
 use Rattle.embedding.specs.declared.Plate.{Plate as Held}
 use Rattle.refusals.specs.declared.Refusal.{Refusal}
@@ -20,27 +20,8 @@ use Rattle.embedding.proofs.Totals.{ends_at_below}
 use Rattle.embedding.proofs.Faces.{lead_of_face, lead_face, lead_in_face, face_same}
 use Rattle.embedding.proofs.Faultless.{faultless}
 use Rattle.embedding.proofs.Answers.{number_lead}
-use Rattle.embedding.proofs.Joining.{taken_both, taken_one}
 use Rattle.embedding.proofs.Editing.{accepted_ordered}
 use Rattle.embedding.proofs.Holding.{held_darts, held_degree, held_end}
-
-pub was_false : {r b : Bool} → r ≡ not b → r ≡ true → b ≡ false
-was_false {r} {b} e h = by b (sym e ∙ h)
-  where
-    by : (b : Bool) → not b ≡ true → b ≡ false
-    by true h = absurd (not_both h refl)
-    by false h = refl
-
-not_below : (d n : ℕ) → not (ltb d n) ≡ leb n d
-not_below d n = by (ltb d n) refl
-  where
-    by : (b : Bool) → ltb d n ≡ b → not b ≡ leb n d
-    by true e = sym (lt-leb n d (ltb-true d n e))
-    by false e = sym (le-leb n d (ltb-false d n e))
-
-or_when : (a b : Bool) (n : ℕ) → when (a || b) (suc n) ≡ first_of (when a (suc n)) (when b (suc n))
-or_when true b n = refl
-or_when false b n = refl
 
 module _ (q : Held) where
   abbrev p : Plate
@@ -56,7 +37,7 @@ module _ (q : Held) where
   o = accepted_ordered p a
 
   -- where d ends
-  end_at : (d t : ℕ) → d < q.darts → t ≡ twin d → get_or q.ends t 0 ≡ ends_at p d
+  pub end_at : (d t : ℕ) → d < q.darts → t ≡ twin d → get_or q.ends t 0 ≡ ends_at p d
   end_at d t l e =
       ap (λ (i : ℕ). get_or q.ends i 0) e ∙ held_end s a (twin d) (omega (arith, twin_dart p o d (omega (arith, s.dart_count)), s.dart_count))
 
@@ -65,24 +46,9 @@ module _ (q : Held) where
       let k : d < darts p = omega (arith, s.dart_count) in
       (omega (arith, twin_dart p o d k, s.dart_count, held_darts s a), omega (arith, end_at d t l e, ends_at_below p o d k, (faultless p a.no_fault).posts_most))
 
-  -- the places left
-  degree_at : (d t : ℕ) → d < q.darts → t ≡ twin d → get_or q.degrees (get_or q.ends t 0) 0 ≡ degree p (ends_at p d)
-  degree_at d t l e =
-      ap (λ (v : ℕ). get_or q.degrees v 0) (end_at d t l e) ∙ held_degree s a (ends_at p d) (ends_at_below p o d (omega (arith, s.dart_count)))
-
-  module _ (d t more : ℕ) (l : d < q.darts) (e : t ≡ twin d) where
-    pub places_full : 4 < get_or q.degrees (get_or q.ends t 0) 0 + more → 37 ≡ when (full p (ends_at p d) more) 37
-    places_full h = rw (lt-ltb 4 (degree p (ends_at p d) + more) (omega (arith, degree_at d t l e)))
-
-    pub places_left : get_or q.degrees (get_or q.ends t 0) 0 + more ≤ 4 → 0 ≡ when (full p (ends_at p d) more) 37
-    places_left h = rw (le-ltb 4 (degree p (ends_at p d) + more) (omega (arith, degree_at d t l e)))
-
-  module _ (d e t u : ℕ) (l : d < q.darts) (k : e < q.darts) (x : t ≡ twin d) (y : u ≡ twin e) where
-    pub takes_two : get_or q.ends t 0 ≡ get_or q.ends u 0 → 2 ≡ taken p d e
-    takes_two h = sym (taken_both p d e (sym (end_at d t l x) ∙ h ∙ end_at e u k y))
-
-    pub takes_one : (get_or q.ends t 0 ≡ get_or q.ends u 0 → ⊥) → 1 ≡ taken p d e
-    takes_one h = sym (taken_one p d e (λ w. h (end_at d t l x ∙ w ∙ sym (end_at e u k y))))
+  -- the places taken at the post where d ends, as held
+  pub degree_at : (d v : ℕ) → d < q.darts → v ≡ ends_at p d → get_or q.degrees v 0 ≡ degree p v
+  degree_at d v l e = held_degree s a v (omega (arith, ends_at_below p o d (omega (arith, s.dart_count))))
 
   -- one face
   face_at : (d : ℕ) → d < darts p → get_or q.face d 0 ≡ face_number p d
@@ -107,21 +73,6 @@ module _ (q : Held) where
       twice : (b : Bool) → b ≡ not (not b)
       twice true = refl
       twice false = refl
-
-  -- a hanging strip, past 36
-  pub hang_is : (d n : ℕ) → n ≡ first_of (when (not (ltb d q.darts)) 35) (when (no_post p || no_strip p) 36) → first_of n (when (full p (ends_at p d) 1) 37) ≡ hang_fault p d
-  hang_is d n e =
-      ap (λ (k : ℕ). first_of k (when (full p (ends_at p d) 1) 37)) (e ∙ ap (λ (b : Bool). first_of (when b 35) (when (no_post p || no_strip p) 36)) (ap (λ (k : ℕ). not (ltb d k)) s.dart_count ∙ not_below d (darts p)))
-      ∙ sym (first_assoc (when (leb (darts p) d) 35) (when (no_post p || no_strip p) 36) (when (full p (ends_at p d) 1) 37))
-
-  -- a join, past 36
-  pub join_is : (d e more : ℕ) → no_face p d e ≡ false → q.darts / 2 < 128 → more ≡ taken p d e → first_of (when (full p (ends_at p d) more) 37) (when (full p (ends_at p e) more) 37) ≡ join_fault p d e
-  join_is d e more face few is-taken =
-      ap (λ (m : ℕ). first_of (when (full p (ends_at p d) m) 37) (when (full p (ends_at p e) m) 37)) is-taken ∙ sym (or_when (full p (ends_at p d) (taken p d e)) (full p (ends_at p e) (taken p d e)) 36)
-      ∙ sym (ap (λ (b : Bool). first_of (when b 35) (first_of (when (no_strip p) 36) both)) face ∙ ap (λ (b : Bool). first_of (when b 36) both) (lt-leb 128 (strips p) (omega (arith, s.dart_count))))
-    where
-      both : ℕ
-      both = when (full p (ends_at p d) (taken p d e) || full p (ends_at p e) (taken p d e)) 37
 
 -- a step that is not refused, from the plate read
 pub step_done : {fault : ℕ} {p : Plate} {r : Result Held Refusal} → fault ≡ 0 → Accepted p → Reads p r → SteppedTo fault p r

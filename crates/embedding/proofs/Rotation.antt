@@ -13,6 +13,7 @@ use Rattle.finite.proofs.Members.{get_d_in, in_none, in_here, in_more, in_cases,
 use Rattle.finite.proofs.Pigeonhole.{length_members, when_one}
 use Rattle.finite.proofs.Sums.{sum_below, sum_over, sum_cong, sum_none, sum_ones, sum_add, sum_le, sum_tight, sum_over_places}
 use Rattle.finite.proofs.Tests.{equal_or_not, not_both, and_left, and_right}
+pub use Rattle.maps.proofs.Darts.{twin_twin}
 use Rattle.embedding.specs.Plates.{pick, when, is_in, Plate, darts, twin, leaves, ends_at, degree_from, degree, before, part_of, all_below, distinct, all_leave, parts_ok, last_of, just_before, after}
 
 -- what refusals 7 to 12 leave
@@ -35,12 +36,6 @@ twin_even d e = ⊎_elim (λ h. h.1) (λ h. absurd (omega arith)) (twin_cases d)
 
 pub twin_odd : (d : ℕ) → d % 2 ≡ 1 → twin d ≡ d - 1
 twin_odd d e = ⊎_elim (λ h. absurd (omega arith)) (λ h. h.1) (twin_cases d)
-
-pub twin_twin : (d : ℕ) → twin (twin d) ≡ d
-twin_twin d =
-    ⊎_elim (λ h. ap twin h.1 ∙ omega (arith, twin_odd (suc d) (omega arith)))
-    (λ h. ap twin h.1 ∙ omega (arith, twin_even (d - 1) (omega arith)))
-    (twin_cases d)
 
 pub twin_differs : (d : ℕ) → twin d ≡ d → ⊥
 twin_differs d e = ⊎_elim (λ h. omega arith) (λ h. omega arith) (twin_cases d)

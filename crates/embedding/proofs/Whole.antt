@@ -16,7 +16,8 @@ use Rattle.finite.proofs.Pigeonhole.{at_most}
 use Rattle.finite.proofs.Tables.{table_cong, up_below, up_cong}
 use Rattle.finite.proofs.Tests.{or_left_false, or_right_false, first_none, first_some, when_none}
 use Rattle.embedding.specs.Plates.{first_of, when, Plate, darts, twin, ends_at, part_of, all_below, parts_ok, last_of, just_before, after, faces, reach, connected, is_plane, plate_fault}
-use Rattle.embedding.specs.Steps.{Few, place_in, after_in, next_of}
+use Rattle.embedding.specs.Steps.{Few, after_in, next_of}
+use Rattle.embedding.specs.Meant.{place_in}
 use Rattle.embedding.specs.Pass.{strips_fault, early_fault, late_fault}
 use Rattle.embedding.specs.Read.{Follows, face_size, Past, Reads}
 use Rattle.refusals.specs.Numbers.{number_of}

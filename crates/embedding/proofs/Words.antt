@@ -4,24 +4,20 @@ use mathlib.Core.Bool.{Bool, true, false, ◌||◌}
 use mathlib.Core.List.{List, [], ◌∷◌}
 use Prim.Native.Nat.{ℕ, suc, ◌+◌, ◌-◌, ◌≤◌, ◌<◌}
 use native.Mathlib.Omega.{arith}
-use borrow.Author.Tests.{eqb-true, eq-eqb, ltb-true, ltb-false}
+use borrow.Author.Tests.{ltb-true, ltb-false}
 use lib.Dec.{eqb, ltb}
 use lib.ListN.{length, take, drop}
 use Rattle.finite.proofs.Lent.{rest_lent}
 use Rattle.std.proofs.Common.{cond, Option, Some, None, unwrap_or, position}
 use Rattle.std.specs.List.{list_any, position_or_len}
 use Rattle.std.proofs.lemmas.List.Recursion.{is_position_or_len}
-use Rattle.finite.proofs.Tests.{same_test}
+use Rattle.finite.proofs.Tests.{eqb_turned}
 use Rattle.embedding.specs.Plates.{is_in}
 use Rattle.embedding.specs.Meant.{place_of}
-use Rattle.embedding.proofs.Fronted.{place_most}
-
-eqb-swap : (x y : ℕ) → eqb y x ≡ eqb x y
-eqb-swap x y = same_test (eqb y x) (eqb x y) (λ e. eq-eqb x y (sym (eqb-true y x e))) (λ e. eq-eqb y x (sym (eqb-true x y e)))
 
 contains_is : (x : ℕ) (ys : List ℕ) → list_any (λ y. eqb y x) ys ≡ is_in x ys
 contains_is x [] = refl
-contains_is x (y ∷ ys) = ap (λ (b : Bool). b || list_any (λ z. eqb z x) ys) (eqb-swap x y) ∙ ap (λ (b : Bool). eqb x y || b) (contains_is x ys)
+contains_is x (y ∷ ys) = ap (λ (b : Bool). b || list_any (λ z. eqb z x) ys) (eqb_turned y x) ∙ ap (λ (b : Bool). eqb x y || b) (contains_is x ys)
 
 -- in the rest of a list
 pub contained : (x : ℕ) (s : List ℕ) (from : ℕ) → list_any (λ y. eqb y x) (take (length s - from) (drop from s)) ≡ is_in x (drop from s)
@@ -50,10 +46,3 @@ missing x s e = by (ltb (position_or_len (λ y. eqb x y) s) (length s)) refl e
     by : (b : Bool) → ltb (position_or_len (λ y. eqb x y) s) (length s) ≡ b → None ≡ cond b (Some (position_or_len (λ y. eqb x y) s)) None → length s ≤ place_of x s
     by true h e = cc
     by false h e = omega (arith, place-position x s, ltb-false (position_or_len (λ y. eqb x y) s) (length s) h)
-
-pub position_is : (x : ℕ) (s : List ℕ) → unwrap_or (position (λ y. eqb x y) s) (length s) ≡ place_of x s
-position_is x s = by (ltb (position_or_len (λ y. eqb x y) s) (length s)) refl
-  where
-    by : (b : Bool) → ltb (position_or_len (λ y. eqb x y) s) (length s) ≡ b → unwrap_or (cond b (Some (position_or_len (λ y. eqb x y) s)) None) (length s) ≡ place_of x s
-    by true e = sym (place-position x s)
-    by false e = omega (arith, ltb-false (position_or_len (λ y. eqb x y) s) (length s) e, place-position x s, place_most x s)

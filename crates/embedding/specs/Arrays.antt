@@ -1,7 +1,6 @@
 -- What the code of the journal's steps keeps in arrays: lists at their front.
 use Rattle.std.specs.Prelude.{◌≡◌, List, ◌++◌, ℕ, length, take}
 use Rattle.embedding.specs.Plates.{Plate}
-pub use Rattle.embedding.specs.Meant.{row_in}
 
 -- xs is an array of 256 that begins with l
 pub record Front (l xs : List ℕ) : Type 0 where

@@ -10,12 +10,12 @@ use Rattle.embedding.specs.declared.journal.Step.{Step}
 use Rattle.embedding.specs.declared.journal.Step.TheVariants.{Split, Hang, Join}
 use Rattle.embedding.specs.declared.journal.Edited.{Edited}
 
--- a step with this fault, to the plate q: 0 and q, or the fault and the plate before
+-- a step with this fault, to the plate q: the verdict is the fault's; the plate is q where nothing is refused, and else the one before
 pub record EditedTo (fault : ℕ) (q : Plate) (before : Held) (r : Edited) : Type 0 where
   pub number : fault_of r.verdict ≡ fault
   pub plate : pick_t (eqb fault 0) (meant r.plate ≡ q) (r.plate ≡ before)
 
--- a step with this fault, to the plate q: the refusal, or q
+-- a step with this fault, to the plate q: q, or the fault's refusal
 pub record SteppedTo (fault : ℕ) (q : Plate) (r : Result Held Refusal) : Type 0 where
   pub number : fault_of r ≡ fault
   pub plate : IfOk r (λ h. meant h ≡ q)

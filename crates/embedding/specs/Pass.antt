@@ -32,16 +32,16 @@ state_of n es = go_on n no_strips es
 abbrev pub stopped_after : ℕ → ℕ → List ℕ → Strips
 stopped_after k n es = go_on n (state_of n (take (2 * k) es)) (drop (2 * k) es)
 
--- 9, 11, the first that was met
-abbrev pub first_met : Bool → Bool → ℕ
-first_met stray over = first_of (when stray 9) (when over 11)
+-- 9 or 11: 9 wins, whichever was met first
+abbrev pub nine_first : Bool → Bool → ℕ
+nine_first stray over = first_of (when stray 9) (when over 11)
 
 abbrev pub answer_of : Strips → ℕ
-answer_of s = first_met s.stray s.over
+answer_of s = nine_first s.stray s.over
 
 -- the same of a plate, as `plate_fault` has it
 abbrev pub strips_fault : Plate → ℕ
-strips_fault p = first_met (not (all_below p.posts p.ends)) (over_four p.posts 0 p)
+strips_fault p = nine_first (not (all_below p.posts p.ends)) (over_four p.posts 0 p)
 
 -- 7 and 8, of n posts and the strip ends e
 abbrev pub early_fault : ℕ → List ℕ → ℕ

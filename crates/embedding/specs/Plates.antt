@@ -1,5 +1,6 @@
 -- Plates: darts, faces, refusals 7 to 15.
-use Rattle.std.specs.Prelude.{Bool, true, false, ◌&&◌, ◌||◌, not, List, [], ◌∷◌, ◌++◌, ℕ, zero, suc, ◌+◌, ◌-◌, ◌/◌, ◌%◌, eqb, ltb, leb, length, get_or, take, drop}
+use Rattle.std.specs.Prelude.{Bool, true, false, ◌&&◌, ◌||◌, not, List, [], ◌∷◌, ◌++◌, ℕ, zero, suc, ◌+◌, ◌/◌, eqb, ltb, leb, length, get_or, take, drop}
+pub use Rattle.maps.specs.Maps.{twin}
 pub use Rattle.finite.specs.Base.{pick, pick_t, first_of, when, is_in, all_below, distinct, last_of, is_lowest}
 
 -- posts, strips as ends in a row (first, second), clockwise darts of all posts, the outer dart
@@ -17,9 +18,6 @@ darts p = length p.ends
 
 abbrev pub strips : Plate → ℕ
 strips p = darts p / 2
-
-abbrev pub twin : ℕ → ℕ
-twin d = pick (eqb (d % 2) 0) (suc d) (d - 1)
 
 -- dart 2i leaves the first post of strip i, dart 2i + 1 the second
 abbrev pub leaves : Plate → ℕ → ℕ

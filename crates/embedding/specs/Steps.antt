@@ -3,7 +3,7 @@ use Rattle.std.specs.Prelude.{◌≡◌, Option, is_some, IfSome, Bool, false, �
 use Rattle.finite.specs.Tables.{Table, up_to}
 use Rattle.finite.specs.Walks.{orbit}
 use Rattle.embedding.specs.Plates.{pick, is_in, plate, twin, degree_from, distinct, all_leave, parts_ok, last_of, just_before, joins}
-pub use Rattle.embedding.specs.Meant.{place_in}
+use Rattle.embedding.specs.Meant.{place_in}
 use Rattle.embedding.specs.declared.reached.Seen.{Seen}
 
 -- the degrees of n posts, none over four

@@ -2,7 +2,7 @@
 ghost use Rattle.std.specs.Prelude.{◌≡◌, ◌==◌, position, true, ◌||◌, not, List, [], ◌∷◌, ℕ, ◌+◌, ◌%◌, ◌<◌, ◌≤◌, length};
 ghost use Rattle.refusals.specs.Numbers.{fault_of};
 ghost use Rattle.embedding.specs.Plates.{Plate as PlateOf, distinct, ends_at, first_of, when};
-ghost use Rattle.embedding.specs.Read.{place_of, meant, Reads};
+ghost use Rattle.embedding.specs.Read.{meant, Reads};
 ghost use Rattle.embedding.specs.Edits.{put_before, renamed, split, split_fault, hang, hang_fault, join, join_fault, full, taken, no_face, no_post, no_strip};
 ghost use Rattle.embedding.specs.Arrays.{Front, Appended, Listed};
 ghost use Rattle.embedding.specs.Journal.{EditedTo, SteppedTo, step_fault, stepped};
@@ -42,13 +42,6 @@ fn find(x: u8, s: &[u8]) -> Option<usize>
     s.iter().position(|y| x == *y)
 }
 
-// Where `x` stands first, or the length.
-pub fn place_of(x: u8, s: &[u8]) -> usize
-    ensures { result ≡ place_of x s.now }
-{
-    find(x, s).unwrap_or(s.len())
-}
-
 // `y` for `x` among the first elements, where it stands once.
 fn replace(list: [u8; 256], long: usize, x: u8, y: u8) -> [u8; 256]
     requires { long ≤ 256 }
@@ -78,16 +71,16 @@ fn put_before(x: u8, y: u8, s: &[u8]) -> [u8; 256]
 
 // The plate that the first `darts` elements of each list make.
 fn read_more(
-    posts: usize,
+    posts: u8,
     darts: usize,
     ends: &[u8],
     order: &[u8],
     outer: u8,
 ) -> Result<Plate, Refusal>
-    requires { (posts < 256) × (darts ≤ 256) × (darts % 2 ≡ 0) × (length ends.now ≡ 256) × (length order.now ≡ 256) }
+    requires { (darts ≤ 256) × (darts % 2 ≡ 0) × (length ends.now ≡ 256) × (length order.now ≡ 256) }
     ensures { (p : PlateOf) → p.posts ≡ posts → p.outer ≡ outer → Listed p darts ends.now order.now → Reads p result }
 {
-    read_plate(posts as u8, &ends[..darts], &order[..darts], outer)
+    read_plate(posts, &ends[..darts], &order[..darts], outer)
 }
 
 // The plate after a step, or the one before it with the refusal.
@@ -117,6 +110,7 @@ impl Plate {
             let degree = usize::from(self.degrees[v]);
             let from = 4 * v;
             let to = from + degree;
+            // Two lines: the check does not cover `all = append(all, ..)`.
             let more = append(all, at, &self.places[from..to]);
             all = more;
             at += degree;
@@ -124,37 +118,39 @@ impl Plate {
         all
     }
 
-    // 35: what a step with a new post names is not there; 36: a post or a strip too many.
-    fn check_new_post(self, is_there: bool) -> Result<(), Refusal>
-        ensures { fault_of result ≡ first_of (when (not is_there) 35) (when (no_post (meant self) || no_strip (meant self)) 36) }
+    // 36: a post or a strip too many.
+    fn check_new_post(self) -> Result<(), Refusal>
+        ensures { fault_of result ≡ when (no_post (meant self) || no_strip (meant self)) 36 }
     {
-        if !is_there {
-            return Err(Refusal::NoSuchStep);
-        }
         if 64 <= self.posts || 128 <= self.darts / 2 {
             return Err(Refusal::PlateFull);
         }
         Ok(())
     }
 
-    // 37: fewer than `more` places are left at the post where `d` ends.
-    fn check_places(self, d: usize, more: usize) -> Result<(), Refusal>
-        requires { (d < self.darts) × (more ≤ 2) }
-        ensures { fault_of result ≡ when (full (meant self) (ends_at (meant self) d) more) 37 }
+    // The post where `d` ends.
+    fn end_post(self, d: usize) -> usize
+        requires { d < self.darts }
+        ensures { (result ≡ ends_at (meant self) d) × (result < 64) }
     {
-        let v = usize::from(self.ends[twin_of(d)]);
-        if 4 < usize::from(self.degrees[v]) + more {
-            return Err(Refusal::PostFull);
-        }
-        Ok(())
+        usize::from(self.ends[twin_of(d)])
     }
 
-    // How many places a join takes at the post where `d` ends.
+    // Whether `more` places are more than are left at the post where `d` ends.
+    fn is_full(self, d: usize, more: usize) -> bool
+        requires { (d < self.darts) × (more ≤ 2) }
+        ensures { result ≡ full (meant self) (ends_at (meant self) d) more }
+    {
+        let v = self.end_post(d);
+        4 < usize::from(self.degrees[v]) + more
+    }
+
+    // How many places a join takes at the post where `d` ends. Its darts are no struct: they are the two numbers of `Step::Join`.
     fn taken_at(self, d: usize, e: usize) -> usize
         requires { (d < self.darts) × (e < self.darts) }
         ensures { (result ≡ taken (meant self) d e) × (result ≤ 2) }
     {
-        if self.ends[twin_of(d)] == self.ends[twin_of(e)] {
+        if self.end_post(d) == self.end_post(e) {
             2
         } else {
             1
@@ -172,15 +168,24 @@ impl Plate {
     fn check_split(self, strip: usize) -> Result<(), Refusal>
         ensures { fault_of result ≡ split_fault (meant self) strip }
     {
-        self.check_new_post(strip < self.darts / 2)
+        if self.darts / 2 <= strip {
+            return Err(Refusal::NoSuchStep);
+        }
+        self.check_new_post()
     }
 
     // 35: no such dart; 36: a post or a strip too many; 37: no place left at the post where `d` ends.
     fn check_hang(self, d: usize) -> Result<(), Refusal>
         ensures { fault_of result ≡ hang_fault (meant self) d }
     {
-        self.check_new_post(d < self.darts)?;
-        self.check_places(d, 1)
+        if self.darts <= d {
+            return Err(Refusal::NoSuchStep);
+        }
+        self.check_new_post()?;
+        if self.is_full(d, 1) {
+            return Err(Refusal::PostFull);
+        }
+        Ok(())
     }
 
     // 35: no such darts, or darts that are equal or of two faces; 36: a strip too many; 37: no place left at one of their posts.
@@ -194,8 +199,13 @@ impl Plate {
             return Err(Refusal::PlateFull);
         }
         let more = self.taken_at(d, e);
-        self.check_places(d, more)?;
-        self.check_places(e, more)
+        if self.is_full(d, more) {
+            return Err(Refusal::PostFull);
+        }
+        if self.is_full(e, more) {
+            return Err(Refusal::PostFull);
+        }
+        Ok(())
     }
 
     // Strip `strip` now ends at a new post, and a new strip runs from there to its old end.
@@ -203,16 +213,17 @@ impl Plate {
         ensures { SteppedTo (split_fault (meant self) strip) (split (meant self) strip) result }
     {
         self.check_split(strip)?;
-        let posts = self.posts;
         let darts = self.darts;
         let back = 2 * strip + 1;
-        let renamed = replace(self.order(), darts, back as u8, (darts + 1) as u8);
-        let new_order = append(renamed, darts, &[back as u8, darts as u8]);
+        // `as`: posts and darts are below 256, and `try_from` would test it again.
+        let (post, old, new) = (self.posts as u8, back as u8, darts as u8);
+        let renamed = replace(self.order(), darts, old, new + 1);
+        let new_order = append(renamed, darts, &[old, new]);
         let mut ends = self.ends;
         let end = ends[back];
-        ends[back] = posts as u8;
-        let new_ends = append(ends, darts, &[posts as u8, end]);
-        read_more(posts + 1, darts + 2, &new_ends, &new_order, self.outer)
+        ends[back] = post;
+        let new_ends = append(ends, darts, &[post, end]);
+        read_more(post + 1, darts + 2, &new_ends, &new_order, self.outer)
     }
 
     // A new strip to a new post, in the corner where dart `d` ends.
@@ -220,14 +231,15 @@ impl Plate {
         ensures { SteppedTo (hang_fault (meant self) d) (hang (meant self) d) result }
     {
         self.check_hang(d)?;
-        let posts = self.posts;
         let darts = self.darts;
         let t = twin_of(d);
+        // `as`: posts and darts are below 256, and `try_from` would test it again.
+        let (post, twin, new) = (self.posts as u8, t as u8, darts as u8);
         let order = self.order();
-        let with = put_before(t as u8, darts as u8, &order[..darts]);
-        let new_order = append(with, darts + 1, &[(darts + 1) as u8]);
-        let new_ends = append(self.ends, darts, &[self.ends[t], posts as u8]);
-        read_more(posts + 1, darts + 2, &new_ends, &new_order, self.outer)
+        let with = put_before(twin, new, &order[..darts]);
+        let new_order = append(with, darts + 1, &[new + 1]);
+        let new_ends = append(self.ends, darts, &[self.ends[t], post]);
+        read_more(post + 1, darts + 2, &new_ends, &new_order, self.outer)
     }
 
     // A new strip from the corner where dart `d` ends to the corner where dart `e` ends.
@@ -238,13 +250,16 @@ impl Plate {
         let darts = self.darts;
         let t = twin_of(d);
         let u = twin_of(e);
+        // `as`: posts and darts are below 256, and `try_from` would test it again.
+        let (posts, new) = (self.posts as u8, darts as u8);
         let order = self.order();
-        let half = put_before(u as u8, (darts + 1) as u8, &order[..darts]);
-        let new_order = put_before(t as u8, darts as u8, &half[..darts + 1]);
+        let half = put_before(u as u8, new + 1, &order[..darts]);
+        let new_order = put_before(t as u8, new, &half[..darts + 1]);
         let new_ends = append(self.ends, darts, &[self.ends[t], self.ends[u]]);
-        read_more(self.posts, darts + 2, &new_ends, &new_order, self.outer)
+        read_more(posts, darts + 2, &new_ends, &new_order, self.outer)
     }
 
+    // The methods `split`, `hang` and `join` differ in the step that they make; as one function of the step they are `apply`.
     // Strip `strip` ends at a new post, and a new strip runs from there to its old end.
     pub fn split(self, strip: usize) -> Edited
         ensures { EditedTo (split_fault (meant self) strip) (split (meant self) strip) self result }

@@ -1,10 +1,10 @@
 //! The faces, each walked from its lowest dart.
-ghost use Rattle.std.specs.Prelude.{◌≡◌, ℕ, ◌<◌, ◌≤◌, length};
+ghost use Rattle.std.specs.Prelude.{◌≡◌, ℕ, ◌<◌, ◌≤◌, length, take};
 ghost use Rattle.finite.specs.Walks.{OneToOne};
 ghost use Rattle.embedding.specs.Plates.{Plate as PlateOf};
 ghost use Rattle.embedding.specs.Steps.{next_of, FaceLabelled};
 
-// The dart after each dart.
+// The dart after each dart. An array: the library allocates nothing.
 #[derive(Clone, Copy)]
 pub struct Walk {
     pub darts: usize,
@@ -13,7 +13,7 @@ pub struct Walk {
     pub ghost one: { OneToOne (next_of next) darts },
 }
 
-// The faces: each dart's face, the darts that have one, each face's size, how many.
+// The faces: each dart's face, the darts that have one, each face's size, how many. Arrays: the library allocates nothing.
 // `met` stands beside `face`: the plate keeps plain numbers, and an array of `Option<u8>` would have to be copied out into them.
 #[derive(Clone, Copy)]
 pub struct Labelled {
@@ -21,6 +21,17 @@ pub struct Labelled {
     pub met: [bool; 256],
     pub sizes: [u16; 256],
     pub faces: usize,
+}
+
+impl Labelled {
+    // The sizes as a plate keeps them: those of the first 66 faces.
+    pub fn plate_sizes(&self) -> [u16; 66]
+        ensures { result ≡ take 66 self.now.sizes }
+    {
+        let mut sizes = [0; 66];
+        sizes.copy_from_slice(&self.sizes[..66]);
+        sizes
+    }
 }
 
 impl Walk {
@@ -54,6 +65,7 @@ impl Walk {
             return;
         }
         let count = all.faces;
+        // `as`: there are fewer faces so far than darts, and `try_from` would test it again.
         all.sizes[count] = self.label_face(d, count as u8, &mut all.face, &mut all.met);
         all.faces = count + 1;
     }

@@ -15,6 +15,7 @@ pub mod strips;
 pub use crate::reading::read_plate;
 
 // A plate without fault. The j-th dart of post v, clockwise, stands at 4 v + j of `places`; faces are numbered by their lowest darts.
+// Arrays: the library allocates nothing.
 #[derive(Clone, Copy)]
 pub struct Plate {
     pub posts: usize,

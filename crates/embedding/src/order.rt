@@ -4,6 +4,7 @@ ghost use Rattle.finite.specs.Tables.{Table, up_to};
 ghost use Rattle.embedding.specs.Plates.{all_below, distinct, all_leave, plate, last_of, just_before};
 ghost use Rattle.embedding.specs.Steps.{Few, PostRead, OrderRead, after_in};
 
+use crate::reading::Lists;
 use crate::twin_of;
 
 // Whether no dart stands twice in `s`.
@@ -53,6 +54,7 @@ fn read_post(ends: &[u8], v: usize, part: &[u8]) -> Option<[u8; 4]>
     }
 }
 
+// The rows one after the other.
 fn flatten(rows: [[u8; 4]; 64]) -> [u8; 256]
     ensures { Table 256 (λ i. get_or (get_or rows (i / 4) []) (i % 4) 0) result }
 {
@@ -63,19 +65,21 @@ fn flatten(rows: [[u8; 4]; 64]) -> [u8; 256]
     all
 }
 
-// The order field, post by post.
-pub fn read_order(posts: usize, ends: &[u8], order: &[u8], degrees: [u8; 64]) -> Option<[u8; 256]>
-    requires { (posts ≤ 64) × (length order.now ≡ length ends.now) × Few posts ends.now degrees }
-    ensures { OrderRead posts ends.now order.now result }
-{
-    let mut rows = [[0u8; 4]; 64];
-    let mut at = 0;
-    for v in 0..posts {
-        let end = at + usize::from(degrees[v]);
-        rows[v] = read_post(ends, v, &order[at..end])?;
-        at = end;
+impl Lists<'_> {
+    // The order field, post by post.
+    pub fn read_order(&self, degrees: [u8; 64]) -> Option<[u8; 256]>
+        requires { (self.now.posts ≤ 64) × (length self.now.order.now ≡ length self.now.ends.now) × Few self.now.posts self.now.ends.now degrees }
+        ensures { OrderRead self.now.posts self.now.ends.now self.now.order.now result }
+    {
+        let mut rows = [[0u8; 4]; 64];
+        let mut at = 0;
+        for v in 0..self.posts {
+            let end = at + usize::from(degrees[v]);
+            rows[v] = read_post(self.ends, v, &self.order[at..end])?;
+            at = end;
+        }
+        Some(flatten(rows))
     }
-    Some(flatten(rows))
 }
 
 // The element of `s` just before `x`, the last before the first.
@@ -93,7 +97,7 @@ fn before_in(x: usize, s: &[u8]) -> u8
     prev
 }
 
-// The posts of the strip ends, and the darts of each post.
+// The posts of the strip ends, and the darts of each post. Arrays: the library allocates nothing.
 #[derive(Clone, Copy)]
 pub struct Ordered<'a> {
     pub posts: usize,

@@ -5,7 +5,7 @@ ghost use Rattle.embedding.specs.Steps.{Joined, RoundMade};
 
 use crate::order::Ordered;
 
-// The posts reached, and how many: counting the marks anew would go over all of them after each round.
+// The posts reached, and how many: counting the marks anew would go over all of them after each round. An array: the library allocates nothing.
 #[derive(Clone, Copy)]
 pub struct Seen {
     pub seen: [bool; 64],
@@ -13,35 +13,28 @@ pub struct Seen {
 }
 
 // One strip: where one of its posts is seen, both are.
-fn join(s: Seen, a: usize, b: usize) -> Seen
-    requires { (a < 64) × (b < 64) × (s.count < 1000) }
-    ensures { Joined a b s result }
+fn join(s: &mut Seen, a: usize, b: usize)
+    requires { (a < 64) × (b < 64) × (s.old.count < 1000) }
+    ensures { Joined a b s.old s.new }
 {
-    let mut r = s;
-    if s.seen[a] && !s.seen[b] {
-        r.seen[b] = true;
-        r.count += 1;
+    if s.seen[a] != s.seen[b] {
+        s.seen[a] = true;
+        s.seen[b] = true;
+        s.count += 1;
     }
-    if s.seen[b] && !s.seen[a] {
-        r.seen[a] = true;
-        r.count += 1;
-    }
-    r
 }
 
 impl Ordered<'_> {
     // Every strip once.
-    fn round(&self, s: Seen) -> Seen
-        requires { s.count ≤ 64 }
-        ensures { RoundMade self.now.ends.now s result }
+    fn round(&self, s: &mut Seen)
+        requires { s.old.count ≤ 64 }
+        ensures { RoundMade self.now.ends.now s.old s.new }
     {
-        let mut r = s;
         let mut left = self.ends;
         while let [a, b, more @ ..] = left {
-            r = join(r, usize::from(*a), usize::from(*b));
+            join(s, usize::from(*a), usize::from(*b));
             left = more;
         }
-        r
     }
 
     // How many posts are reached from post 0: rounds until one adds nothing.
@@ -53,11 +46,11 @@ impl Ordered<'_> {
         let mut s = Seen { seen, count: 1 };
         // A loop: how many rounds there are is known only when one adds nothing.
         loop {
-            let r = self.round(s);
-            if r.count == s.count {
-                return s.count;
+            let before = s.count;
+            self.round(&mut s);
+            if s.count == before {
+                return before;
             }
-            s = r;
         }
     }
 }

@@ -7,74 +7,75 @@ ghost use Rattle.embedding.specs.Read.{Past, Reads};
 
 use crate::Plate;
 use crate::labels::Walk;
-use crate::order::{Ordered, padded, read_order};
+use crate::order::{Ordered, padded};
 use crate::strips::{answer, go_on, no_strips};
 use refusals::Refusal;
 
-// Refusals 7 and 8.
-fn check_counts(posts: usize, ends: &[u8]) -> Result<(), Refusal>
-    ensures { fault_of result ≡ early_fault posts ends.now }
-{
-    if posts == 0 || 64 < posts {
-        return Err(Refusal::PostCount);
-    }
-    if ends.is_empty() {
-        return Err(Refusal::NoStrips);
-    }
-    Ok(())
+// A plate as it is given: how many posts, the ends of its strips, its posts' darts in clockwise order, the outer dart.
+#[derive(Clone, Copy)]
+pub struct Lists<'a> {
+    pub posts: usize,
+    pub ends: &'a [u8],
+    pub order: &'a [u8],
+    pub outer: u8,
+    pub ghost short: { length ends.now ≤ 256 },
+    pub ghost even: { length ends.now % 2 ≡ 0 },
 }
 
-// Refusals 12 to 15, or the plate.
-fn read_rest(
-    posts: usize,
-    ends: &[u8],
-    order: &[u8],
-    outer: u8,
-    degrees: [u8; 64],
-) -> Result<Plate, Refusal>
-    requires { (length ends.now ≤ 256) × (length ends.now % 2 ≡ 0) × Past posts ends.now degrees }
-    ensures { Reads (plate posts ends.now order.now outer) result }
-{
-    if order.len() != ends.len() {
-        return Err(Refusal::ClockwiseOrder);
+impl Lists<'_> {
+    // Refusals 7 and 8.
+    fn check_counts(&self) -> Result<(), Refusal>
+        ensures { fault_of result ≡ early_fault self.now.posts self.now.ends.now }
+    {
+        if self.posts == 0 || 64 < self.posts {
+            return Err(Refusal::PostCount);
+        }
+        if self.ends.is_empty() {
+            return Err(Refusal::NoStrips);
+        }
+        Ok(())
     }
-    let places = read_order(posts, ends, order, degrees).ok_or(Refusal::ClockwiseOrder)?;
-    let darts = ends.len();
-    if darts <= usize::from(outer) {
-        return Err(Refusal::OuterDart);
+
+    // Refusals 12 to 15, or the plate.
+    fn read_rest(&self, degrees: [u8; 64]) -> Result<Plate, Refusal>
+        requires { Past self.now.posts self.now.ends.now degrees }
+        ensures { Reads (plate self.now.posts self.now.ends.now self.now.order.now self.now.outer) result }
+    {
+        let darts = self.ends.len();
+        if self.order.len() != darts {
+            return Err(Refusal::ClockwiseOrder);
+        }
+        let places = self.read_order(degrees).ok_or(Refusal::ClockwiseOrder)?;
+        if darts <= usize::from(self.outer) {
+            return Err(Refusal::OuterDart);
+        }
+        let ordered = Ordered {
+            posts: self.posts,
+            ends: self.ends,
+            places,
+            degrees,
+        };
+        if ordered.reach_count() != self.posts {
+            return Err(Refusal::NotConnected);
+        }
+        let next = ordered.next_darts();
+        let labelled = Walk { darts, next }.faces();
+        if self.posts + labelled.faces != darts / 2 + 2 {
+            return Err(Refusal::NotPlane);
+        }
+        Ok(Plate {
+            posts: self.posts,
+            darts,
+            ends: padded(self.ends),
+            places,
+            degrees,
+            outer: self.outer,
+            next,
+            face: labelled.face,
+            faces: labelled.faces,
+            sizes: labelled.plate_sizes(),
+        })
     }
-    let ordered = Ordered {
-        posts,
-        ends,
-        places,
-        degrees,
-    };
-    if ordered.reach_count() != posts {
-        return Err(Refusal::NotConnected);
-    }
-    let walk = Walk {
-        darts,
-        next: ordered.next_darts(),
-    };
-    let labelled = walk.faces();
-    let faces = labelled.faces;
-    if posts + faces != darts / 2 + 2 {
-        return Err(Refusal::NotPlane);
-    }
-    let mut sizes = [0; 66];
-    sizes.copy_from_slice(&labelled.sizes[..66]);
-    Ok(Plate {
-        posts,
-        darts,
-        ends: padded(ends),
-        places,
-        degrees,
-        outer,
-        next: walk.next,
-        face: labelled.face,
-        faces,
-        sizes,
-    })
 }
 
 // The plate of `posts` posts whose strips have these ends, whose posts have these darts in clockwise order, and whose outer face holds dart `outer`.
@@ -82,9 +83,14 @@ pub fn read_plate(posts: u8, ends: &[u8], order: &[u8], outer: u8) -> Result<Pla
     requires { (length ends.now ≤ 256) × (length ends.now % 2 ≡ 0) × (length order.now ≤ 256) }
     ensures { Reads (plate posts ends.now order.now outer) result }
 {
-    let n = usize::from(posts);
-    check_counts(n, ends)?;
-    let strips = go_on(n, no_strips(), ends);
+    let lists = Lists {
+        posts: usize::from(posts),
+        ends,
+        order,
+        outer,
+    };
+    lists.check_counts()?;
+    let strips = go_on(lists.posts, no_strips(), ends);
     answer(strips)?;
-    read_rest(n, ends, order, outer, strips.degrees)
+    lists.read_rest(strips.degrees)
 }

@@ -5,7 +5,9 @@ ghost use Rattle.embedding.specs.Pass.{no_strips, add_end, add_strip, GoneOn, An
 
 use refusals::Refusal;
 
-// Two marks and not a `Result`: 9 wins over 11 though 11 may be met first. What was met so far: an end that is no post (9), a fifth place taken at a post (11); and how many places are taken at each post, one by each strip end, counted up to four.
+// What was met so far: an end that is no post (9), a fifth place taken at a post (11); and how many places are taken at each post, one by each strip end, counted up to four.
+// Two marks and not a `Result`: 9 wins over 11 though 11 may be met first. An array: the library allocates nothing.
+// How many posts there are goes beside it, and each function asks that they fit: the state of the definitions does not hold it.
 #[derive(Clone, Copy)]
 pub struct Strips {
     pub stray: bool,
@@ -14,6 +16,7 @@ pub struct Strips {
 }
 
 // No strip gone over.
+#[tactic(auto, unfolding(crate::specs::Pass::no_strips))]
 pub fn no_strips() -> Strips
     ensures { result ≡ no_strips }
 {
@@ -25,31 +28,29 @@ pub fn no_strips() -> Strips
 }
 
 // One strip end, at `v`.
-fn add_end(posts: usize, s: Strips, v: usize) -> Strips
+fn add_end(posts: usize, s: &mut Strips, v: usize)
     requires { posts ≤ 64 }
-    ensures { result ≡ add_end posts v s }
+    ensures { s.new ≡ add_end posts v s.old }
 {
-    let mut r = s;
     if posts <= v {
-        r.stray = true;
-        return r;
+        s.stray = true;
+        return;
     }
-    let count = r.degrees[v];
+    let count = s.degrees[v];
     if 4 <= count {
-        r.over = true;
-        return r;
+        s.over = true;
+        return;
     }
-    r.degrees[v] = count + 1;
-    r
+    s.degrees[v] = count + 1;
 }
 
 // One strip, from `a` to `b`.
-fn add_strip(posts: usize, s: Strips, a: usize, b: usize) -> Strips
+fn add_strip(posts: usize, s: &mut Strips, a: usize, b: usize)
     requires { posts ≤ 64 }
-    ensures { result ≡ add_strip posts a b s }
+    ensures { s.new ≡ add_strip posts a b s.old }
 {
-    let first = add_end(posts, s, a);
-    add_end(posts, first, b)
+    add_end(posts, s, a);
+    add_end(posts, s, b);
 }
 
 // The strips of `rest` after those that `s` is the state of.
@@ -60,13 +61,13 @@ pub fn go_on(posts: usize, s: Strips, rest: &[u8]) -> Strips
     let mut r = s;
     let mut left = rest;
     while let [a, b, more @ ..] = left {
-        r = add_strip(posts, r, usize::from(*a), usize::from(*b));
+        add_strip(posts, &mut r, usize::from(*a), usize::from(*b));
         left = more;
     }
     r
 }
 
-// 9 or 11, the first that was met.
+// 9 or 11: 9 wins, whichever was met first.
 pub fn answer(s: Strips) -> Result<(), Refusal>
     ensures { Answered s (fault_of result) }
 {

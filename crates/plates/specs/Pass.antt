@@ -1,7 +1,7 @@
 -- The strips of a list gone over once, as the crate embedding defines it: 9 and 11 in their sequence, the pass stopped and gone on with, and every list answered as by `list_fault`.
 use Rattle.std.specs.Prelude.{◌≡◌, false, List, ℕ, ◌≤◌}
 use Rattle.plates.specs.Files.{walk_all, fault_from, list_fault, plate_of}
-pub use Rattle.embedding.specs.Pass.{no_strips, add_end, add_strip, go_on, state_of, stopped_after, first_met, answer_of, strips_fault, early_fault, late_fault, pass_fault, GoneOn, Answered}
+pub use Rattle.embedding.specs.Pass.{no_strips, add_end, add_strip, go_on, state_of, stopped_after, nine_first, answer_of, strips_fault, early_fault, late_fault, pass_fault, GoneOn, Answered}
 
 -- a list's fault, 9 and 11 answered by the pass, stopped after k strips and gone on with over the rest alone
 abbrev pub list_pass : ℕ → List ℕ → ℕ

@@ -22,6 +22,7 @@ fn show_faces(rt: &impl Print, plate: &Plate) -> io::Result<()> {
 }
 
 // Reads a plate and writes a line: its label, then the refusal's number, or 0 and the faces.
+// Six parameters: most of the calls below are one line, and with a struct each would name its fields.
 fn show(
     rt: &impl Print,
     label: &[u8],
@@ -55,7 +56,7 @@ fn show_stopped(rt: &impl Print, label: &[u8], posts: usize, ends: &[u8]) -> io:
 {
     rt.write_all(b"stopped, ")?;
     rt.write_all(label)?;
-    for strips in 0..ends.len() / 2 + 1 {
+    for strips in 0..=ends.len() / 2 {
         match stopped_at(posts, ends, 2 * strips) {
             Ok(()) => print!(rt; " 0")?,
             Err(refusal) => print!(rt; " {}", refusal.number())?,

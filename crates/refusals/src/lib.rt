@@ -91,6 +91,7 @@ impl Refusal {
     pub fn number(self) -> u8
         ensures { result ≡ number_of self }
     {
+        // `as`: only a cast gives an enum's number.
         self as u8
     }
 }

@@ -14,7 +14,7 @@ use Rattle.refusals.specs.Numbers.{number_of}
 use Rattle.refusals.specs.declared.Refusal.{Refusal}
 use Rattle.fields.specs.Writing.{over}
 use Rattle.embedding.specs.Read.{place_of}
-use Rattle.embedding.proofs.Numbers.{number_some}
+use Rattle.refusals.proofs.Numbered.{some_number}
 use Rattle.plates.specs.Answers.{Listed}
 use Rattle.plates.specs.Files.{list_fault, plate_of}
 use Rattle.plates.specs.Listing.{Gives}
@@ -145,7 +145,7 @@ module _ (s : List ℕ) (line : ℕ) where
     pub refused : (r : Refusal) → number_of r ≡ e → stand s (line + 1) (Err (S.Refused r)) ≡ on_line (going s line) x
     refused r q =
         (λ i. record { list = s; line = line + 1; outcome = Refused (q i) })
-        ∙ ap (λ (b : Bool). on_fault b e (going s line) t) (sym (ne_eqb e 0 (λ z. number_some r (q ∙ z))))
+        ∙ ap (λ (b : Bool). on_fault b e (going s line) t) (sym (ne_eqb e 0 (λ z. some_number r (q ∙ z))))
         ∙ ap (on_line (going s line)) x-is
 
     pub taken : {s' : List ℕ} (a : Unit {0}) → e ≡ 0 → s' ≡ list_after s t → stand s' (line + 1) (Ok a) ≡ on_line (going s line) x

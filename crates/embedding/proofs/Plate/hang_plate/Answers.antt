@@ -1,23 +1,14 @@
 -- `hang_plate`: the lists made are those of the table, so that the plate read is its plate.
 use mathlib.Core.Path.{◌≡◌, refl, sym}
-use Prim.Native.Nat.{◌+◌, ◌%◌, ◌≤◌}
+use Prim.Native.Nat.{◌+◌}
 use native.Mathlib.Omega.{arith}
 use lib.ListN.{get_or}
-use Rattle.std.proofs.Common.{rules}
 use Rattle.embedding.specs.Edits.{hang, hang_fault}
 use Rattle.embedding.specs.Read.{meant}
 use Rattle.embedding.proofs.Refusing.{step_done}
 use Rattle.embedding.proofs.Holding.{hang_listed}
 use Rattle.embedding.proofs.Editing.{hang_room, hang_holds, hang_accepted}
 use Rattle.embedding.proofs.Plate.hang_plate.Goals as goal
-
-pub read_more-requires : goal.read_more-requires
-read_more-requires c =
-    let q = c.args.self in
-    let room = hang_room (meant q) c.args.d (sym c.in_ok-check_hang.ensures) in
-    let few : q.darts ≤ 254 = omega (arith, room.strips_few, q.stands.dart_count, q.accepted.even_darts) in
-    let even : q.darts % 2 ≡ 0 = omega (arith, q.stands.dart_count, q.accepted.even_darts) in
-    (omega (arith, room.posts_few, q.stands.same_posts), omega arith, omega arith, search rules, search rules)
 
 pub returns : goal.returns
 returns c =

@@ -6,12 +6,12 @@ use Rattle.std.proofs.Common.{rules}
 use Rattle.embedding.specs.Edits.{join, join_fault}
 use Rattle.embedding.specs.Read.{meant}
 use Rattle.embedding.proofs.Refusing.{step_done}
-use Rattle.embedding.proofs.Holding.{held_posts, join_listed}
+use Rattle.embedding.proofs.Holding.{join_listed}
 use Rattle.embedding.proofs.Editing.{join_room, join_holds, join_accepted}
 use Rattle.embedding.proofs.Plate.join_plate.Goals as goal
 
-pub overflow_add-darts-2 : goal.overflow_add-darts-2
-overflow_add-darts-2 c =
+pub overflow_add-darts : goal.overflow_add-darts
+overflow_add-darts c =
     let q = c.args.self in
     omega (arith, (join_room (meant q) c.args.d c.args.e (sym c.in_ok-check_join.ensures)).strips_few, q.stands.dart_count)
 
@@ -21,7 +21,7 @@ read_more-requires c =
     let room = join_room (meant q) c.args.d c.args.e (sym c.in_ok-check_join.ensures) in
     let few : q.darts ≤ 254 = omega (arith, room.strips_few, q.stands.dart_count, q.accepted.even_darts) in
     let even : q.darts % 2 ≡ 0 = omega (arith, q.stands.dart_count, q.accepted.even_darts) in
-    (omega (arith, held_posts q.stands q.accepted), omega arith, omega arith, search rules, search rules)
+    (omega arith, omega arith, search rules, search rules)
 
 pub returns : goal.returns
 returns c =

@@ -1,4 +1,4 @@
--- `embedding::strips::answer` meets its contract: the first number that was met.
+-- `embedding::strips::answer` meets its contract: 9 wins over 11.
 use Rattle.embedding.proofs.OnePass.{answers}
 use Rattle.embedding.proofs.strips.answer.Goals as goal
 

@@ -11,8 +11,8 @@ loop-left-preserved c =
     let n = c.args.posts in
     let loop = c.loop-left in
     let left = loop.left.now in
-    ap (go_on n c.add_strip-r.result) (rest_lent left 2)
-    ∙ rw (c.add_strip-r.ensures, c.from.ensures, c.from-in-len2-up.ensures) (go_more n loop.r left 0 _ loop.invariant (omega (arith, c.in-len2-up.len_at_least)))
+    ap (go_on n c.add_strip.new.s) (rest_lent left 2)
+    ∙ rw (c.add_strip.ensures, c.from.ensures, c.from-in-len2-up.ensures) (go_more n loop.r left 0 _ loop.invariant (omega (arith, c.in-len2-up.len_at_least)))
 
 pub returns : goal.returns
 returns c =

@@ -1,7 +1,6 @@
 -- `label_face` meets its contract: the walk from dart d closes, and each of its darts is labelled.
 use mathlib.Core.Path.{sym, ◌∙◌}
-use Rattle.embedding.proofs.Labelling.{labelling_start, labelling_done, labelling_more, size_below}
-use native.Mathlib.Omega.{arith}
+use Rattle.embedding.proofs.Labelling.{labelling_start, labelling_done, labelling_more}
 use Rattle.embedding.proofs.labels.Walk.label_face.Goals as goal
 
 pub loop-at-init : goal.loop-at-init
@@ -9,20 +8,10 @@ loop-at-init c =
     let w = c.args.self.now in
     labelling_start w.one c.requires.0 w.few c.requires.1 c.requires.2
 
-pub overflow_add-size : goal.overflow_add-size
-overflow_add-size c =
-    let w = c.args.self.now in
-    omega (arith, w.few, size_below w.one c.requires.0 w.few c.loop-at.invariant)
-
 pub returns-then-at-d : goal.returns-then-at-d
 returns-then-at-d c =
     let w = c.args.self.now in
     labelling_done w.one c.requires.0 w.few c.loop-at.invariant (sym c.from-at.ensures ∙ c.if-at-d.true)
-
-pub loop-at-smaller : goal.loop-at-smaller
-loop-at-smaller c =
-    let w = c.args.self.now in
-    omega (arith, size_below w.one c.requires.0 w.few c.loop-at.invariant)
 
 pub loop-at-preserved : goal.loop-at-preserved
 loop-at-preserved c =

@@ -8,14 +8,14 @@ loop-s-init c =
     let q = c.args.self.now in
     spreading_start q.posts q.ends.now q.some
 
-pub round-r-requires : goal.round-r-requires
-round-r-requires c = omega (arith, c.args.self.now.few, spread_most c.loop-s.invariant)
+pub round-requires : goal.round-requires
+round-requires c = omega (arith, c.args.self.now.few, spread_most c.loop-s.invariant)
 
-pub returns-then-r-s : goal.returns-then-r-s
-returns-then-r-s c = spreading_done c.loop-s.invariant c.round-r.ensures c.args.self.now.below c.if-r-s.true
+pub returns-then-s-before : goal.returns-then-s-before
+returns-then-s-before c = spreading_done c.loop-s.invariant c.round.ensures c.args.self.now.below c.if-s-before.true
 
 pub loop-s-smaller : goal.loop-s-smaller
-loop-s-smaller c = omega (arith, c.if-r-s.false, counts_most c.loop-s.invariant c.round-r.ensures c.args.self.now.below)
+loop-s-smaller c = omega (arith, c.if-s-before.false, counts_most c.loop-s.invariant c.round.ensures c.args.self.now.below)
 
 pub loop-s-preserved : goal.loop-s-preserved
-loop-s-preserved c = spreading_more c.loop-s.invariant c.round-r.ensures c.args.self.now.below c.if-r-s.false
+loop-s-preserved c = spreading_more c.loop-s.invariant c.round.ensures c.args.self.now.below c.if-s-before.false

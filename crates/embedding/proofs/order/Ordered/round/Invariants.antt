@@ -11,9 +11,9 @@ use Rattle.embedding.proofs.order.Ordered.round.Given as goal
 
 abbrev pub invariant-loop-left : goal.invariant-loop-left
 invariant-loop-left l = record {
-  joined : (m : List ℕ) → Marks m l.initial.r → Rounding l.self.ends.now m l.left l.r;
+  joined : (m : List ℕ) → Marks m l.initial.s → Rounding l.self.ends.now m l.left l.s;
   below : all_below l.self.posts l.left ≡ true;
-  few : l.r.count + length l.left ≤ l.initial.r.count + length l.self.ends.now;
+  few : l.s.count + length l.left ≤ l.initial.s.count + length l.self.ends.now;
 }
 
 abbrev pub decreases-loop-left : goal.decreases-loop-left

@@ -5,8 +5,8 @@ use lib.ListN.{length}
 use Rattle.embedding.specs.Plates.{degree_from}
 use Rattle.embedding.proofs.Counting.{gathering_start, gathering_more, gathering_not, gathering_done, part_ends, few_at, few_most}
 use native.Mathlib.Omega.{arith}
-use Rattle.embedding.proofs.order.read_order.Goals as goal
-use Rattle.embedding.proofs.order.read_order.Goals.{After-from}
+use Rattle.embedding.proofs.reading.Lists.read_order.Goals as goal
+use Rattle.embedding.proofs.reading.Lists.read_order.Goals.{After-from}
 
 -- the end of post v's part, as the code has it
 module _ (c : After-from) where
@@ -16,10 +16,10 @@ module _ (c : After-from) where
   abbrev end : ℕ
   end = c.loop-v.at + c.from.result
 
-  end_is : end ≡ c.loop-v.at + degree_from v_now c.args.ends.now
+  end_is : end ≡ c.loop-v.at + degree_from v_now c.args.self.now.ends.now
   end_is = omega (arith, c.from.ensures, few_at c.requires.0 c.requires.2 v_now (omega arith))
 
-  end_within : end ≤ length c.args.order.now
+  end_within : end ≤ length c.args.self.now.order.now
   end_within = part_ends c.loop-v.invariant (omega arith) c.requires.0 end end_is c.requires.1
 
   four_most : c.from.result ≤ 4
@@ -32,7 +32,7 @@ pub overflow_add-end : goal.overflow_add-end
 overflow_add-end c = omega (arith, end_within c)
 
 pub slice_bounds-read_post-end : goal.slice_bounds-read_post-end
-slice_bounds-read_post-end c = end_within c
+slice_bounds-read_post-end c = end_within (goal.at.slice_bounds-read_post-end c).After-from
 
 pub returns-in_err-rows : goal.returns-in_err-rows
 returns-in_err-rows c =
