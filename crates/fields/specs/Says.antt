@@ -24,7 +24,7 @@ FieldsMet in_order is_shape s (Ok f) =
     (w.number ≡ when (not (all_there is_shape w.fields)) 6) × SlotsOf is_shape w.fields f
 FieldsMet in_order is_shape s (Err r) = (walk_by in_order is_shape s).number ≡ number_of r
 
--- the fields of an older file, or its refusal
+-- the fields of a file, or its refusal; in_order: its tags ascend, which those of an older file need not
 pub record HoldsBy (in_order is_shape : Bool) (s : List ℕ) (r : Result Slots Refusal) : Type 0 where
   pub number : fault_of r ≡ (walk_by in_order is_shape s).number
   pub slots : IfOk r (SlotsOf is_shape (walk_by in_order is_shape s).fields)

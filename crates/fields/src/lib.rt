@@ -1,4 +1,4 @@
-// The walk over the fields of a plate list or a shape file.
+//! The walk over the fields of a plate list or a shape file.
 #![tactic(auto)]
 
 ghost use Rattle.std.specs.Prelude.{◌≡◌, ◌+◌, ◌*◌, true, false};
@@ -81,8 +81,8 @@ fn first_tag(shape: bool) -> u8
 }
 
 /// The content of each field of a file, by the field's slot. Slots 0 to 6 are
-/// those of tags 01 to 07 in a plate list, of 11 to 17 in a shape file. An array,
-/// since each kind of file has its own names for them; they need no heap.
+/// those of tags 01 to 07 in a plate list, 0 to 4 those of 11 to 15 in a shape
+/// file. An array, since the two kinds of file have other names for them.
 #[derive(Clone, Copy)]
 pub struct Slots<'a> {
     pub slots: [Option<&'a [u8]>; 7],
@@ -167,7 +167,8 @@ struct Met<'a> {
     rest: &'a [u8],
 }
 
-// The field at the front of `s`, in this kind of file, with the slots met before it and the tag that it may not be below: all six refusals, then the field.
+// The field at the front of `s`, in this kind of file, with the slots met before it and the tag that it may not be below: all six refusals,
+// then the field. The tests are bound before the branches, so that their order is seen in the branches alone.
 fn step<'a>(s: &'a [u8], shape: bool, before: Slots<'a>, lowest: u8) -> Result<Met<'a>, Refusal>
     ensures { FrontIs shape before.entry.slots lowest s.now result }
 {

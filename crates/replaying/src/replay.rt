@@ -26,7 +26,8 @@ impl From<Refusal> for Stop {
     }
 }
 
-/// An accepted list, that after the last step that was taken, and the number of lines gone over.
+/// An accepted list, that after the last step that was taken, and the number of lines gone over. An array with its length holds the
+/// list, since nothing is allocated.
 #[derive(Clone, Copy)]
 pub struct Replay {
     list: [u8; 1024],
