@@ -6,7 +6,7 @@ use Prim.Native.Nat.{ℕ, zero, suc, ◌+◌, ◌*◌, ◌<◌}
 use native.Mathlib.Omega.{arith}
 use lib.Dec.{eqb}
 use lib.ListN.{length, get_or, take, drop}
-use Rattle.std.proofs.Common.{Some, slice_get, unwrap_or, reverse}
+use Rattle.std.proofs.Common.{Option, Some, slice_get, unwrap_or, reverse}
 use Rattle.std.proofs.lemmas.List.{take_more, take-append-drop, reverse-append, get_or-take, get_or-drop, drop-drop}
 use Rattle.std.specs.List.{list_any, find}
 use Rattle.std.specs.Option.{option_map}
@@ -14,7 +14,7 @@ use Rattle.std.specs.Simd.{first_chunks}
 use Rattle.finite.specs.Base.{pick, is_in, word_at}
 use Rattle.finite.proofs.Tests.{eqb_turned}
 use Rattle.book.specs.declared.Entry.{Entry}
-use Rattle.book.specs.Entries.{entry_at, entries, listed_of, entry_of, entries_in}
+use Rattle.book.specs.Entries.{entry_at, entries, listed_of, latest, entry_of, entries_in}
 
 -- ---- the chains
 module _ (m : ℕ) where
@@ -36,9 +36,12 @@ module _ (m : ℕ) where
       by true h = refl
       by false h = h
 
-pub first_or_none : (xs : List ℕ) → unwrap_or (slice_get xs 0) 0 ≡ get_or xs 0 0
+first_or_none : (xs : List ℕ) → unwrap_or (slice_get xs 0) 0 ≡ get_or xs 0 0
 first_or_none [] = refl
 first_or_none (x ∷ xs) = refl
+
+pub latest_told : (m : ℕ) (es : List Entry) {o : Option ℕ} {n : ℕ} → o ≡ slice_get (listed_of m es) 0 → n ≡ unwrap_or o 0 → n ≡ latest m es
+latest_told m es e d = d ∙ ap (λ (x : Option ℕ). unwrap_or x 0) e ∙ first_or_none (listed_of m es)
 
 -- ---- one more, and those behind the first
 added : (bs : List (List ℕ)) (b : List ℕ) → entries_in (bs ++ (b ∷ [])) ≡ entry_of b ∷ entries_in bs

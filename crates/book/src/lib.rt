@@ -30,7 +30,8 @@ impl From<[u8; 6]> for Entry {
     }
 }
 
-// Whether some entry is of the model and lists this revision; the last are most likely to.
+// Whether some entry is of the model and lists this revision. From the last on, since the last are most likely to. `before` and `model`
+// stand beside each other here and in the two below: a struct of both would be made for one call each.
 fn is_listed(before: &[[u8; 6]], model: u16, revision: u16) -> bool
     ensures { result ≡ list_any (λ e. (e.model == model) && (e.revision == revision)) (entries_in before.now) }
 {
@@ -41,7 +42,7 @@ fn is_listed(before: &[[u8; 6]], model: u16, revision: u16) -> bool
         .any(|e| e.model == model && e.revision == revision)
 }
 
-// The last entry of the model.
+// The last entry of the model. By itself, since the search closes a chain that ends in `find`, and none with a `map` behind.
 fn last_of(before: &[[u8; 6]], model: u16) -> Option<Entry>
     ensures { result ≡ find (λ e. e.model == model) (entries_in before.now) }
 {
@@ -59,7 +60,8 @@ fn latest_of(before: &[[u8; 6]], model: u16) -> Option<u16>
     last_of(before, model).map(|last| last.revision)
 }
 
-// Whether some of these entries, of which `latest` is the model's last revision, list that of the entry. Where revisions rise, one above the last is not listed.
+// Whether some of these entries, of which `latest` is the model's last revision, list that of the entry. Where
+// each of them replaces a lower revision (`rising`, which the entries tell), one above the last is not listed.
 fn is_repeated(before: &[[u8; 6]], entry: Entry, latest: u16, rising: bool) -> bool
     requires { LastRoom (entries_in before.now) entry.model latest rising }
     ensures { result ≡ is_in entry.revision (listed_of entry.model (entries_in before.now)) }
@@ -70,7 +72,7 @@ fn is_repeated(before: &[[u8; 6]], entry: Entry, latest: u16, rising: bool) -> b
     is_listed(before, entry.model, entry.revision)
 }
 
-// Refuses an entry against those before it, which have no refusal. The first of a model replaces 0.
+// Refuses an entry against those before it, which have no refusal, told whether they rise. The first of a model replaces 0.
 fn check_entry(before: &[[u8; 6]], entry: Entry, rising: bool) -> Result<(), Refusal>
     requires { EntryRoom (entries_in before.now) rising }
     ensures { fault_of result ≡ entry_fault (entries_in before.now) entry }

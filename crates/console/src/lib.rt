@@ -1,20 +1,31 @@
-//! For the programs: lines to standard output, and files that arguments name.
+//! For the programs: lines to standard output, standard input, and files that arguments name.
 #![tactic(auto)]
 
 ghost use Rattle.std.specs.Prelude.{◌≡◌, ◌≤◌, length, IfOk, IfSome};
 ghost use Rattle.console.specs.Decimals.{decimal_in};
 
+use refusals::Refusal;
 use std::env::FillError;
 use std::io::Read;
 use std::rt::{Env, Files};
 use std::{fs, io, str};
 
-// Prints a line: what is meant, what is wrong with it, and its name where one was given.
+// Prints a line: what is meant, what is wrong with it, and its name where one was given. Bytes, since a name may be no UTF-8.
 pub fn complain(rt: &impl Print, which: &[u8], wrong: &[u8], name: &[u8]) -> io::Result<()> {
     rt.write_all(which)?;
     rt.write_all(wrong)?;
     rt.write_all(name)?;
     rt.write_all(b"\n")
+}
+
+// Writes the front of `out`, as many bytes as the answer says, or the answer's refusal.
+pub fn write_answer(rt: &impl Print, out: &[u8], answer: Result<usize, Refusal>) -> io::Result<()>
+    requires { IfOk answer (λ n. n ≤ length out.now) }
+{
+    match answer {
+        Ok(long) => rt.write_all(&out[..long]),
+        Err(refusal) => println!(rt; "{refusal}"),
+    }
 }
 
 // Puts an argument at the start of `buf` and gives its length. One that does not fit counts as empty.
@@ -28,8 +39,8 @@ pub fn argument(rt: &impl Env, place: usize, buf: &mut [u8]) -> Option<usize>
     }
 }
 
-// Opens the file that argument `place` names, or says why it cannot and gives none. A name that is not UTF-8 opens nothing.
-fn open_argument<R: Print + Env + Files, F: FnOnce(&R, &str) -> io::Result<R::File>>(
+// Opens, in the way given, the file that argument `place` names, or says why it cannot and gives none. A name that is not UTF-8 opens nothing.
+pub fn open_argument<R: Print + Env + Files, F: FnOnce(&R, &str) -> io::Result<R::File>>(
     rt: &R,
     place: usize,
     which: &[u8],
@@ -52,6 +63,7 @@ fn open_argument<R: Print + Env + Files, F: FnOnce(&R, &str) -> io::Result<R::Fi
     Ok(file)
 }
 
+// The same for a file to read.
 pub fn open_named<R: Print + Env + Files>(
     rt: &R,
     place: usize,
@@ -60,17 +72,8 @@ pub fn open_named<R: Print + Env + Files>(
     open_argument(rt, place, which, |rt, path| fs::open(rt, path))
 }
 
-// The same for a file to write, which is emptied.
-pub fn open_to_write<R: Print + Env + Files>(
-    rt: &R,
-    place: usize,
-    which: &[u8],
-) -> io::Result<Option<R::File>> {
-    open_argument(rt, place, which, |rt, path| fs::create(rt, path))
-}
-
 // At the end of a file that can be read a further read gives 0. Of a folder every read fails.
-pub fn is_unreadable(rt: &impl Print, file: &mut impl Read, which: &[u8]) -> io::Result<bool> {
+fn is_unreadable(rt: &impl Print, file: &mut impl Read, which: &[u8]) -> io::Result<bool> {
     let mut byte = [0u8; 1];
     if file.read(&mut byte).is_err() {
         complain(rt, which, b": cannot read", b"")?;
@@ -112,6 +115,45 @@ pub fn read_named(
         return Ok(None);
     }
     Ok(Some(n))
+}
+
+// Runs on the first N bytes of the input, up to 1 MiB.
+pub fn with_input<const N: usize, I: Read, F: FnOnce(&[u8]) -> io::Result<()>>(
+    input: &mut I,
+    run: F,
+) -> io::Result<()>
+    requires small { N ≤ 1048576 }
+    requires called { F.IsAlwaysCallable run }
+{
+    let mut buf = [0u8; N];
+    let n = read_full(input, &mut buf)?;
+    run(&buf[..n])
+}
+
+// Runs on the first N and the first M bytes of the files that the first two arguments name, up to 1 MiB of each, or says which cannot be opened or read.
+pub fn with_files<
+    const N: usize,
+    const M: usize,
+    R: Print + Env + Files,
+    F: FnOnce(&[u8], &[u8]) -> io::Result<()>,
+>(rt: &R, first: &[u8], second: &[u8], run: F) -> io::Result<()>
+    requires small { (N ≤ 1048576) × (M ≤ 1048576) }
+    requires called { (a b : _) → length a.now ≤ N → length b.now ≤ M → F.pre run a b }
+{
+    let first_file = open_named(rt, 1, first)?;
+    let second_file = open_named(rt, 2, second)?;
+    let (Some(mut first_file), Some(mut second_file)) = (first_file, second_file) else {
+        return Ok(());
+    };
+    let mut front = [0u8; N];
+    let Some(n) = read_named(rt, &mut first_file, first, &mut front)? else {
+        return Ok(());
+    };
+    let mut other = [0u8; M];
+    let Some(k) = read_named(rt, &mut second_file, second, &mut other)? else {
+        return Ok(());
+    };
+    run(&front[..n], &other[..k])
 }
 
 // The number that decimal digits stand for; one above 65,536 counts as 65,536. `parse` would take a plus sign, and refuse a larger number.

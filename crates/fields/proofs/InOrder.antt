@@ -6,10 +6,11 @@ use Prim.Native.Nat.{ℕ, zero, suc, ◌+◌, ◌≤◌, ◌<◌}
 use native.Mathlib.Nat.{le_dest}
 use native.Mathlib.Numerals.{add-one}
 use native.Mathlib.Omega.{arith}
-use Rattle.std.specs.Prelude.{Some, None, Ok, Err, is_some, unwrap_or, option_map}
+use Rattle.std.specs.Prelude.{Result, Some, None, Ok, Err, IfOk, is_some, unwrap_or, option_map}
 use denote.Bor.{Bor}
 use lib.ListN.{length, get_or, drop, length-append}
 use borrow.Author.Tests.{lt-ltb, le-ltb}
+use Rattle.refusals.specs.declared.Refusal.{Refusal}
 use Rattle.refusals.specs.declared.Refusal.TheVariants.{MemoryShort}
 use Rattle.fields.specs.Files.{Field, has_tag, content_of, content_at, old_walk, field}
 use Rattle.fields.specs.Rules.{first_tag, tag_at}
@@ -105,9 +106,10 @@ module _ {k : Bool} {s : List ℕ} (kind : k ≡ is_shape_file s) where
         zero_plus n = omega arith
 
 -- what was written, or nothing, is within the lent memory
-pub order_fits : (s o o' : List ℕ) (r : Ordered) → OrderSays s o o' r → r.long ≤ length o'
-order_fits s o o' r h = go (order_fault s o) h
+pub order_within : (s o o' : List ℕ) (r : Result ℕ Refusal) → OrderSays s o o' (ordered_of r) → IfOk r (λ n. n ≤ length o')
+order_within s o o' (Err e) h = tt
+order_within s o o' (Ok k) h = go (order_fault s o) h
   where
-    go : (n : ℕ) → OrderWith n s o o' r → r.long ≤ length o'
+    go : (n : ℕ) → OrderWith n s o o' (ordered_of (Ok k)) → k ≤ length o'
     go zero (a, b, c) = omega (arith, b, ap length c, length-append (ordered_bytes s) (drop (length (ordered_bytes s)) o))
     go (suc n) (a, b, c) = omega (arith, b)

@@ -5,7 +5,7 @@ use Prim.Native.Nat.{ℕ, ◌+◌, ◌≤◌, ◌<◌}
 use native.Mathlib.Nat.{add-zero}
 use native.Mathlib.Numerals.{add-one}
 use native.Mathlib.Omega.{arith}
-use lib.ListN.{length, take, drop, set, length-append, length-drop, take-append-drop}
+use lib.ListN.{length, take, drop, set, length-append, take-append-drop}
 use lib.Seq.{length-take-le, take_at, drop_at, drop-drop, set_split}
 use Rattle.fields.specs.Files.{two, field}
 use Rattle.fields.specs.Writing.{put_at, Written}
@@ -51,17 +51,6 @@ module _ (at : ℕ) (xs out : List ℕ) (h : at ≤ length out) where
 
   pub put_put : (next : ℕ) (ys : List ℕ) → next ≡ at + length xs → put_at next ys (put_at at xs out) ≡ put_at at (xs ++ ys) out
   put_put next ys e = rw e (put_behind ys)
-
-pub length_put : (at : ℕ) (xs out : List ℕ) → at + length xs ≤ length out → length (put_at at xs out) ≡ length out
-length_put at xs out h =
-    let n = at + length xs in
-    omega (
-      arith,
-      length-append (take at out) (xs ++ drop n out),
-      length-append xs (drop n out),
-      length-take-le at out (omega arith),
-      length-drop n out,
-    )
 
 -- a field's bytes
 pub field_long : (t : ℕ) (c : List ℕ) → length (field t c) ≡ 3 + length c

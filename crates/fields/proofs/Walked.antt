@@ -166,9 +166,6 @@ module _ {o k : Bool} {s r : List ℕ} {f : Slots} {low : ℕ} (g : Going o k s 
             }
 
       -- a field met: its slot and content, and the walk goes on behind it
-      pub slot_in : (i : ℕ) → i ≡ slot → i < 7
-      slot_in i e = omega (arith, e, slot_below)
-
       pub going_met : (i : ℕ) (c : Bor (List ℕ)) (b : List ℕ) (x : ℕ) → i ≡ slot → c.now ≡ (field_at r).content → b ≡ drop (3 + head_long r) r → x ≡ pick o t 0
           → Going o k s b (record { slots = set f.slots i (Some c) }) x
       going_met i c b x ei ec eb ex = rw (ei, eb, ex) (going_on c ec)

@@ -4,11 +4,11 @@ use Rattle.finite.specs.Base.{pick, first_of, when}
 
 -- which tags a file has, and their lengths; the remark's is 6 in a list, 15 hexadecimal in a shape; 7 are the limits of bends, a byte a strip
 abbrev pub tag_ok : Bool → ℕ → Bool
-tag_ok isShape t = pick isShape (leb 17 t && leb t 21) (leb 1 t && leb t 7)
+tag_ok is_shape t = pick is_shape (leb 17 t && leb t 21) (leb 1 t && leb t 7)
 
 abbrev pub long_ok : Bool → ℕ → ℕ → Bool
-long_ok isShape t n =
-    pick isShape
+long_ok is_shape t n =
+    pick is_shape
     (pick (eqb t 17 || eqb t 18) (eqb n 2)
     (pick (eqb t 19 || eqb t 20) (leb n 256) (leb n 80)))
     (pick (eqb t 1) (eqb n 2)
@@ -47,8 +47,8 @@ abbrev pub walk : ℕ → List Field → Walk
 walk n f = record { number = n; fields = f }
 
 abbrev pub all_there : Bool → List Field → Bool
-all_there isShape fs =
-    pick isShape
+all_there is_shape fs =
+    pick is_shape
     (has_tag 17 fs && (has_tag 18 fs && (has_tag 19 fs && has_tag 20 fs)))
     (has_tag 1 fs && (has_tag 2 fs && (has_tag 3 fs && (has_tag 4 fs && has_tag 5 fs))))
 
@@ -64,22 +64,22 @@ last_tag (f ∷ (g ∷ fs)) = last_tag (g ∷ fs)
 
 -- refusals 1, 2, 3, 29, 4, 5 of the field at the front of s, told whether its tag was met before and whether it is below the previous one
 abbrev pub fault_where : Bool → Bool → Bool → List ℕ → ℕ
-fault_where isShape met below s =
+fault_where is_shape met below s =
     let t = get_or s 0 0 in
     let n = head_long s in
     first_of (when (ltb (length s) 3) 1)
-    (first_of (when (not (tag_ok isShape t)) 2)
+    (first_of (when (not (tag_ok is_shape t)) 2)
     (first_of (when met 3)
     (first_of (when below 29)
-    (first_of (when (not (long_ok isShape t n)) 4)
+    (first_of (when (not (long_ok is_shape t n)) 4)
     (when (ltb (length s) (3 + n)) 5)))))
 
 -- in order: tags ascend; else in any order, as files were before request E7
 abbrev pub fault_by : Bool → Bool → List Field → List ℕ → ℕ
-fault_by inOrder isShape fs s = let t = get_or s 0 0 in fault_where isShape (has_tag t fs) (inOrder && ltb t (last_tag fs)) s
+fault_by in_order is_shape fs s = let t = get_or s 0 0 in fault_where is_shape (has_tag t fs) (in_order && ltb t (last_tag fs)) s
 
 abbrev pub field_fault : Bool → List Field → List ℕ → ℕ
-field_fault isShape fs s = fault_by true isShape fs s
+field_fault is_shape fs s = fault_by true is_shape fs s
 
 -- the field at the front of s
 abbrev pub field_at : List ℕ → Field
@@ -87,32 +87,32 @@ field_at s = record { tag = get_or s 0 0; content = take (head_long s) (drop 3 s
 
 -- the walk from fs over s by the fault of a field behind those met, by a fuel above the length of s
 abbrev pub fields_with : (List Field → List ℕ → ℕ) → ℕ → Bool → List Field → List ℕ → Walk
-fields_with fault zero isShape fs s = walk 0 fs
-fields_with fault (suc l) isShape fs s =
+fields_with fault zero is_shape fs s = walk 0 fs
+fields_with fault (suc l) is_shape fs s =
     let e = fault fs s in
     elim (eqb (length s) 0) [
-      | true ↦ walk (when (not (all_there isShape fs)) 6) fs
+      | true ↦ walk (when (not (all_there is_shape fs)) 6) fs
       | false ↦ elim (eqb e 0) [
-        | true ↦ fields_with fault l isShape (add_field fs (field_at s)) (drop (3 + head_long s) s)
+        | true ↦ fields_with fault l is_shape (add_field fs (field_at s)) (drop (3 + head_long s) s)
         | false ↦ walk e []
       ]
     ]
 
 abbrev pub fields_by : Bool → ℕ → Bool → List Field → List ℕ → Walk
-fields_by inOrder l isShape fs s = fields_with (fault_by inOrder isShape) l isShape fs s
+fields_by in_order l is_shape fs s = fields_with (fault_by in_order is_shape) l is_shape fs s
 
 abbrev pub walk_by : Bool → Bool → List ℕ → Walk
-walk_by inOrder isShape s = fields_by inOrder (suc (length s)) isShape [] s
+walk_by in_order is_shape s = fields_by in_order (suc (length s)) is_shape [] s
 
 abbrev pub fields_from : ℕ → Bool → List Field → List ℕ → Walk
-fields_from l isShape fs s = fields_by true l isShape fs s
+fields_from l is_shape fs s = fields_by true l is_shape fs s
 
 abbrev pub walk_all : Bool → List ℕ → Walk
-walk_all isShape s = walk_by true isShape s
+walk_all is_shape s = walk_by true is_shape s
 
 -- the walk over an older file
 abbrev pub old_walk : Bool → List ℕ → Walk
-old_walk isShape s = walk_by false isShape s
+old_walk is_shape s = walk_by false is_shape s
 
 -- a number in two bytes, and a field as it stands in a file
 abbrev pub two : ℕ → List ℕ

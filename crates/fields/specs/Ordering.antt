@@ -18,7 +18,7 @@ rising (suc n) t fs = field_of t fs ++ rising n (suc t) fs
 
 -- of the seven tags from a file's first one on: all that it may have
 abbrev pub sorted : Bool → List Field → List Field
-sorted isShape fs = rising 7 (first_tag isShape) fs
+sorted is_shape fs = rising 7 (first_tag is_shape) fs
 
 -- fields as they stand in a file
 abbrev pub bytes_in : List Field → List ℕ
@@ -65,13 +65,13 @@ pub record SameBesides (tag : ℕ) (fs gs : List Field) : Type 0 where
 
 -- a field's refusals before request E7
 abbrev pub old_fault : Bool → List Field → List ℕ → ℕ
-old_fault isShape fs s =
+old_fault is_shape fs s =
     let t = get_or s 0 0 in
     let n = head_long s in
     first_of (when (ltb (length s) 3) 1)
-    (first_of (when (not (tag_ok isShape t)) 2)
+    (first_of (when (not (tag_ok is_shape t)) 2)
     (first_of (when (has_tag t fs) 3)
-    (first_of (when (not (long_ok isShape t n)) 4)
+    (first_of (when (not (long_ok is_shape t n)) 4)
     (when (ltb (length s) (3 + n)) 5))))
 
 -- each tag is above the one before, the first above p

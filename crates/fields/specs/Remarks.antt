@@ -5,16 +5,16 @@ use Rattle.fields.specs.Files.{Field, last_tag, walk_all, field}
 use Rattle.fields.specs.Ordering.{bytes_in, SameBesides}
 
 abbrev pub remark_tag : Bool → ℕ
-remark_tag isShape = pick isShape 21 6
+remark_tag is_shape = pick is_shape 21 6
 
 -- two files that differ in the remark at most: the walk gives them the same number, and besides the remark the same fields
-pub record OnlyRemark (isShape : Bool) (s t : List ℕ) : Type 0 where
-  pub number : (walk_all isShape s).number ≡ (walk_all isShape t).number
-  pub besides : SameBesides (remark_tag isShape) (walk_all isShape s).fields (walk_all isShape t).fields
+pub record OnlyRemark (is_shape : Bool) (s t : List ℕ) : Type 0 where
+  pub number : (walk_all is_shape s).number ≡ (walk_all is_shape t).number
+  pub besides : SameBesides (remark_tag is_shape) (walk_all is_shape s).fields (walk_all is_shape t).fields
 
 -- a file with a remark of content c behind the fields fs, and any bytes y behind it
 abbrev pub remarked : Bool → List Field → List ℕ → List ℕ → List ℕ
-remarked isShape fs c y = bytes_in fs ++ (field (remark_tag isShape) c ++ y)
+remarked is_shape fs c y = bytes_in fs ++ (field (remark_tag is_shape) c ++ y)
 
 -- what request E9 asks of the walk
 pub record PassedOver : Type 0 where

@@ -8,7 +8,7 @@ use Rattle.fields.specs.declared.Rule.{Rule}
 use Rattle.fields.specs.declared.Rule.TheVariants.{Exactly, EvenUpTo, UpTo}
 use Rattle.fields.specs.declared.Met.{Met}
 
--- the table of the paper: a tag's rule
+-- a tag's rule, of a plate list and of a shape file; none where it is no such tag
 abbrev pub list_rule : ℕ → Option Rule
 list_rule t =
     pick (eqb t 1) (Some (Exactly 2))
@@ -25,7 +25,7 @@ shape_rule t =
     (pick (eqb t 21) (Some (UpTo 80)) None))
 
 abbrev pub rule_of : Bool → ℕ → Option Rule
-rule_of isShape t = pick isShape (shape_rule t) (list_rule t)
+rule_of is_shape t = pick is_shape (shape_rule t) (list_rule t)
 
 -- the refusal that a rule stands for: 2 where the tag is none of this file
 abbrev pub rule_number : Option Rule → ℕ
@@ -43,20 +43,20 @@ allowed (Some r) n = keeps r n
 allowed None n = false
 
 -- the rule of a tag, with its number and the lengths that it allows
-pub record RuleIs (isShape : Bool) (t : ℕ) (r : Option Rule) : Type 0 where
-  pub rule : r ≡ rule_of isShape t
-  pub number : rule_number r ≡ when (not (tag_ok isShape t)) 2
-  pub long : (n : ℕ) → tag_ok isShape t ≡ true → allowed r n ≡ long_ok isShape t n
+pub record RuleIs (is_shape : Bool) (t : ℕ) (r : Option Rule) : Type 0 where
+  pub rule : r ≡ rule_of is_shape t
+  pub number : rule_number r ≡ when (not (tag_ok is_shape t)) 2
+  pub long : (n : ℕ) → tag_ok is_shape t ≡ true → allowed r n ≡ long_ok is_shape t n
 
 -- slots: tags 1 to 7 of a list are 0 to 6, tags 11 to 15 hexadecimal of a shape 0 to 4
 abbrev pub first_tag : Bool → ℕ
-first_tag isShape = pick isShape 17 1
+first_tag is_shape = pick is_shape 17 1
 
 abbrev pub slot_of : Bool → ℕ → ℕ
-slot_of isShape t = t - first_tag isShape
+slot_of is_shape t = t - first_tag is_shape
 
 abbrev pub tag_at : Bool → ℕ → ℕ
-tag_at isShape i = first_tag isShape + i
+tag_at is_shape i = first_tag is_shape + i
 
 -- whether a slot has a content
 abbrev pub is_met : {A : Type 0} → List (Option A) → ℕ → Bool
@@ -64,21 +64,21 @@ is_met before i = is_some (get_or before i None)
 
 -- every field but the remark and the limits has a content
 abbrev pub all_met : {A : Type 0} → Bool → List (Option A) → Bool
-all_met isShape before = is_met before 0 && (is_met before 1 && (is_met before 2 && (is_met before 3 && (isShape || is_met before 4))))
+all_met is_shape before = is_met before 0 && (is_met before 1 && (is_met before 2 && (is_met before 3 && (is_shape || is_met before 4))))
 
 -- the fault of the field at the front of s, told the slots that were met before it and the tag that it may not be below
 abbrev pub front_fault : {A : Type 0} → Bool → List (Option A) → ℕ → List ℕ → ℕ
-front_fault isShape before low s =
+front_fault is_shape before low s =
     let t = get_or s 0 0 in
-    fault_where isShape (is_met before (slot_of isShape t)) (ltb t low) s
+    fault_where is_shape (is_met before (slot_of is_shape t)) (ltb t low) s
 
 -- that field: its slot, its content, and what is behind it
-pub record MetIs (isShape : Bool) (s : List ℕ) (m : Met) : Type 0 where
-  pub slot : m.slot ≡ slot_of isShape (get_or s 0 0)
+pub record MetIs (is_shape : Bool) (s : List ℕ) (m : Met) : Type 0 where
+  pub slot : m.slot ≡ slot_of is_shape (get_or s 0 0)
   pub content : m.content.now ≡ (field_at s).content
   pub rest : m.rest.now ≡ drop (3 + head_long s) s
 
 -- refused with that fault, or met
-pub record FrontIs {A : Type 0} (isShape : Bool) (before : List (Option A)) (low : ℕ) (s : List ℕ) (r : Result Met Refusal) : Type 0 where
-  pub number : fault_of r ≡ front_fault isShape before low s
-  pub met : IfOk r (MetIs isShape s)
+pub record FrontIs {A : Type 0} (is_shape : Bool) (before : List (Option A)) (low : ℕ) (s : List ℕ) (r : Result Met Refusal) : Type 0 where
+  pub number : fault_of r ≡ front_fault is_shape before low s
+  pub met : IfOk r (MetIs is_shape s)

@@ -14,20 +14,20 @@ abbrev pub content_in : Slots → ℕ → Option (List ℕ)
 content_in f i = option_map (λ c. c.now) (get_or f.slots i None)
 
 -- each slot holds the content of its tag, where the fields fs were met
-pub record SlotsOf (isShape : Bool) (fs : List Field) (f : Slots) : Type 0 where
-  pub slot : (i : ℕ) → i < 7 → content_in f i ≡ content_at (tag_at isShape i) fs
+pub record SlotsOf (is_shape : Bool) (fs : List Field) (f : Slots) : Type 0 where
+  pub slot : (i : ℕ) → i < 7 → content_in f i ≡ content_at (tag_at is_shape i) fs
 
 -- what the walk met, before it is asked whether a field is absent, or its refusal
 abbrev pub FieldsMet : Bool → Bool → List ℕ → Result Slots Refusal → Type 0
-FieldsMet inOrder isShape s (Ok f) =
-    let w = walk_by inOrder isShape s in
-    (w.number ≡ when (not (all_there isShape w.fields)) 6) × SlotsOf isShape w.fields f
-FieldsMet inOrder isShape s (Err r) = (walk_by inOrder isShape s).number ≡ number_of r
+FieldsMet in_order is_shape s (Ok f) =
+    let w = walk_by in_order is_shape s in
+    (w.number ≡ when (not (all_there is_shape w.fields)) 6) × SlotsOf is_shape w.fields f
+FieldsMet in_order is_shape s (Err r) = (walk_by in_order is_shape s).number ≡ number_of r
 
--- the fields of an older file, or its refusal
-pub record HoldsBy (inOrder isShape : Bool) (s : List ℕ) (r : Result Slots Refusal) : Type 0 where
-  pub number : fault_of r ≡ (walk_by inOrder isShape s).number
-  pub slots : IfOk r (SlotsOf isShape (walk_by inOrder isShape s).fields)
+-- the fields of a file, or its refusal; in_order: its tags ascend, which those of an older file need not
+pub record HoldsBy (in_order is_shape : Bool) (s : List ℕ) (r : Result Slots Refusal) : Type 0 where
+  pub number : fault_of r ≡ (walk_by in_order is_shape s).number
+  pub slots : IfOk r (SlotsOf is_shape (walk_by in_order is_shape s).fields)
 
 -- the fields of a plate list and of a shape file by name, each content that of its tag
 pub record ListFieldsOf (fs : List Field) (f : ListFields) : Type 0 where
@@ -69,8 +69,8 @@ pub record ShapeThere (f : Slots) (r : Result ShapeFields Refusal) : Type 0 wher
   pub fields : IfOk r (ShapeNamed f)
 
 -- all of them, or 6
-pub record AllThere (isShape : Bool) (f : Slots) (r : Result Slots Refusal) : Type 0 where
-  pub number : fault_of r ≡ when (not (all_met isShape f.slots)) 6
+pub record AllThere (is_shape : Bool) (f : Slots) (r : Result Slots Refusal) : Type 0 where
+  pub number : fault_of r ≡ when (not (all_met is_shape f.slots)) 6
   pub same : IfOk r (λ g. g ≡ f)
 
 -- what the walk over a plate list and over a shape file gives

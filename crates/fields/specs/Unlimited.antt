@@ -18,18 +18,18 @@ six_long t n =
 
 -- 1, 2, 3, 29 unless in any order, 4, 5 of a field behind those met
 abbrev pub six_fault : Bool → List Field → List ℕ → ℕ
-six_fault inOrder fs s =
+six_fault in_order fs s =
     let t = get_or s 0 0 in
     let n = head_long s in
     first_of (when (ltb (length s) 3) 1)
     (first_of (when (not (six_tag t)) 2)
     (first_of (when (has_tag t fs) 3)
-    (first_of (when (inOrder && ltb t (last_tag fs)) 29)
+    (first_of (when (in_order && ltb t (last_tag fs)) 29)
     (first_of (when (not (six_long t n)) 4)
     (when (ltb (length s) (3 + n)) 5)))))
 
 abbrev pub six_walk : Bool → List ℕ → Walk
-six_walk inOrder s = fields_with (six_fault inOrder) (suc (length s)) false [] s
+six_walk in_order s = fields_with (six_fault in_order) (suc (length s)) false [] s
 
 -- an older list put in order by them, and what the call promised of it
 abbrev pub six_bytes : List ℕ → List ℕ
@@ -41,20 +41,20 @@ SixOrdered (suc f) s o o' r = (r.number ≡ suc f) × (r.long ≡ 0) × (o' ≡ 
 
 -- whether the walk of a list comes to a field of tag t, be it met or refused
 abbrev pub comes_from : Bool → ℕ → ℕ → List Field → List ℕ → Bool
-comes_from inOrder t zero fs s = false
-comes_from inOrder t (suc l) fs s =
-    eqb t (get_or s 0 0) || (eqb (fault_by inOrder false fs s) 0 && comes_from inOrder t l (add_field fs (field_at s)) (drop (3 + head_long s) s))
+comes_from in_order t zero fs s = false
+comes_from in_order t (suc l) fs s =
+    eqb t (get_or s 0 0) || (eqb (fault_by in_order false fs s) 0 && comes_from in_order t l (add_field fs (field_at s)) (drop (3 + head_long s) s))
 
 abbrev pub comes_to : Bool → ℕ → List ℕ → Bool
-comes_to inOrder t s = comes_from inOrder t (suc (length s)) [] s
+comes_to in_order t s = comes_from in_order t (suc (length s)) [] s
 
 pub record SixTags : Type 0 where
   -- a list without field 07, accepted or refused, in order or not, is walked as before
-  pub walked : (inOrder : Bool) (s : List ℕ) → comes_to inOrder 7 s ≡ false → walk_by inOrder false s ≡ six_walk inOrder s
+  pub walked : (in_order : Bool) (s : List ℕ) → comes_to in_order 7 s ≡ false → walk_by in_order false s ≡ six_walk in_order s
   -- and put in order as before
   pub ordered : (s o o' : List ℕ) (r : Ordered) → is_shape_file s ≡ false → comes_to false 7 s ≡ false
       → OrderSays s o o' r ↔ SixOrdered (first_of (six_walk false s).number (when (ltb (length o) (length (six_bytes s))) 16)) s o o' r
   -- of a shape file the six tags from its first one on are put in order, as before
   pub shape_ordered : (s : List ℕ) → is_shape_file s ≡ true → ordered_bytes s ≡ bytes_in (rising 6 17 (old_walk true s).fields)
   -- of a list that the walk takes this says that the field is not there
-  pub without : (inOrder : Bool) (s : List ℕ) → (walk_by inOrder false s).number ≡ 0 → comes_to inOrder 7 s ≡ has_tag 7 (walk_by inOrder false s).fields
+  pub without : (in_order : Bool) (s : List ℕ) → (walk_by in_order false s).number ≡ 0 → comes_to in_order 7 s ≡ has_tag 7 (walk_by in_order false s).fields

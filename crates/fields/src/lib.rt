@@ -1,4 +1,4 @@
-// The walk over the fields of a plate list or a shape file.
+//! The walk over the fields of a plate list or a shape file.
 #![tactic(auto)]
 
 ghost use Rattle.std.specs.Prelude.{◌≡◌, ◌+◌, ◌*◌, true, false};
@@ -59,7 +59,10 @@ pub fn shape_rule(tag: u8) -> Option<Rule>
     }
 }
 
-// The rule of a tag of this file.
+// `shape`, here and below: a shape file, else a plate list. A `bool`, since the definitions take one: an enum of the two needs a
+// function to it in every contract.
+//
+// The rule of a tag of this kind of file.
 fn rule_of(shape: bool, tag: u8) -> Option<Rule>
     ensures { RuleIs shape tag result }
 {
@@ -70,7 +73,7 @@ fn rule_of(shape: bool, tag: u8) -> Option<Rule>
     }
 }
 
-// The tag of the first slot of this file.
+// The tag of the first slot of this kind of file.
 fn first_tag(shape: bool) -> u8
     ensures { result ≡ first_tag shape }
 {
@@ -78,7 +81,8 @@ fn first_tag(shape: bool) -> u8
 }
 
 /// The content of each field of a file, by the field's slot. Slots 0 to 6 are
-/// those of tags 01 to 07 in a plate list, of 11 to 17 in a shape file.
+/// those of tags 01 to 07 in a plate list, 0 to 4 those of 11 to 15 in a shape
+/// file. An array, since the two kinds of file have other names for them.
 #[derive(Clone, Copy)]
 pub struct Slots<'a> {
     pub slots: [Option<&'a [u8]>; 7],
@@ -135,7 +139,7 @@ impl<'a> Slots<'a> {
         })
     }
 
-    // All slots of a file in which no field that must be there is absent.
+    // All slots of a file of this kind in which no field that must be there is absent.
     fn all_there(self, shape: bool) -> Result<Slots<'a>, Refusal>
         ensures { AllThere shape self.entry result }
     {
@@ -163,7 +167,8 @@ struct Met<'a> {
     rest: &'a [u8],
 }
 
-// The field at the front of `s`, with the slots met before it and the tag that it may not be below: all six refusals, then the field.
+// The field at the front of `s`, in this kind of file, with the slots met before it and the tag that it may not be below: all six refusals,
+// then the field. The tests are bound before the branches, so that their order is seen in the branches alone.
 fn step<'a>(s: &'a [u8], shape: bool, before: Slots<'a>, lowest: u8) -> Result<Met<'a>, Refusal>
     ensures { FrontIs shape before.entry.slots lowest s.now result }
 {
@@ -197,14 +202,14 @@ fn step<'a>(s: &'a [u8], shape: bool, before: Slots<'a>, lowest: u8) -> Result<M
     })
 }
 
-// The tag that the next field may not be below: this one where tags ascend, else none.
+// The tag that the next field may not be below: this one where tags ascend (`in_order`), else none.
 fn lowest_after(in_order: bool, tag: u8) -> u8
     ensures { result ≡ pick in_order tag 0 }
 {
     if in_order { tag } else { 0 }
 }
 
-// The walk over a file, field by field from the front. Which fields are absent is not looked at.
+// The walk over a file of this kind, field by field from the front; `in_order`: tags ascend. Which fields are absent is not looked at.
 fn walk(s: &[u8], shape: bool, in_order: bool) -> Result<Slots<'_>, Refusal>
     ensures { FieldsMet in_order shape s.now result }
 {
@@ -237,7 +242,7 @@ pub fn walk_shape(s: &[u8]) -> Result<ShapeFields<'_>, Refusal>
     walk(s, true, true)?.shape_fields()
 }
 
-/// The fields of an older file, in any order, or its refusal.
+/// The fields of an older file of this kind, in any order, or its refusal.
 #[tactic(auto, using(crate::proofs::Named::older_walked))]
 pub fn walk_older(s: &[u8], shape: bool) -> Result<Slots<'_>, Refusal>
     ensures { HoldsBy false shape s.now result }

@@ -26,6 +26,7 @@ pub fn order_fields(file: &[u8], out: &mut [u8]) -> Result<usize, Refusal>
     let mut at = 0;
     for (slot, field) in fields.slots.iter().enumerate() {
         if let Some(content) = field {
+            // As: there are seven slots.
             at = write_field(out, at, tag + slot as u8, content);
         }
     }

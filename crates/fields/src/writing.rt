@@ -11,6 +11,7 @@ pub fn two_bytes(v: usize) -> [u8; 2]
     requires { v < 65536 }
     ensures { result ≡ two v }
 {
+    // As: it fits, by the `requires`.
     (v as u16).to_be_bytes()
 }
 
@@ -21,7 +22,7 @@ pub fn four_bytes(v: u32) -> [u8; 4]
     v.to_be_bytes()
 }
 
-/// Copies `content` into `out` from `at` on.
+/// Copies `content` into `out` from `at` on: the library's copy, with a promise of the whole memory lent.
 pub fn copy_at(out: &mut [u8], at: usize, content: &[u8])
     requires { at + length content.now ≤ length out.old }
     ensures { out.new ≡ put_at at content.now out.old }

@@ -10,7 +10,9 @@ use Rattle.plates.specs.Plates.{pick_t}
 use Rattle.plates.specs.Files.{content_of, walk_all}
 use Rattle.plates.specs.Says.{over, word}
 use Rattle.plates.specs.Listing.{refused_text, listing_text, Gives, ListingWith, ListingSays, listing_fault}
-use Rattle.plates.specs.Answers.{Listed}
+use Rattle.plates.specs.Answers.{Listed, listed_of}
+use Rattle.refusals.specs.declared.Refusal.{Refusal}
+use Rattle.std.proofs.Common.{Result, Ok, Err, IfOk}
 
 pub gives_fits : (t o o' : List ℕ) (r : Listed) → Gives t o o' r → r.long ≤ length o'
 gives_fits t o o' r = by (ltb (length o) (length t))
@@ -25,3 +27,11 @@ listing_with (suc f) s o o' r g = gives_fits (refused_text (suc f)) o o' r g
 
 pub listing_fits : (s o o' : List ℕ) (r : Listed) → ListingSays s o o' r → r.long ≤ length o'
 listing_fits s o o' r (none, keeps, h) = listing_with (listing_fault none s) s o o' r h
+
+-- of the answer itself
+pub listed_within : (m : ℕ) (r : Result ℕ Refusal) → (listed_of r).long ≤ m → IfOk r (λ n. n ≤ m)
+listed_within m (Ok n) l = l
+listed_within m (Err e) l = tt
+
+pub listing_within : (s o o' : List ℕ) (r : Result ℕ Refusal) → ListingSays s o o' (listed_of r) → IfOk r (λ n. n ≤ length o')
+listing_within s o o' r h = listed_within (length o') r (listing_fits s o o' (listed_of r) h)

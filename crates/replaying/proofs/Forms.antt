@@ -11,7 +11,7 @@ use lib.Dec.{eqb, leb, ltb}
 use lib.ListN.{length, take, drop, length-append}
 use lib.Seq.{split_at, take-append_seam, drop-append-add}
 use Rattle.finite.specs.Base.{pick, is_in}
-use Rattle.finite.proofs.Tests.{either, and_parts, and_left, not_both}
+use Rattle.finite.proofs.Tests.{either, and_parts, and_left}
 use Rattle.embedding.specs.Read.{place_of}
 use Rattle.embedding.proofs.Answers.{place_hit, place_miss, place-in}
 use Rattle.embedding.proofs.Flat.{place_none}
@@ -19,53 +19,50 @@ use Rattle.plates.specs.Listing.{number_of}
 use Rattle.plates.specs.Journal.{Step, Split, Hang, Join}
 use Rattle.std.proofs.Common.{Option, Some, None}
 use Rattle.std.specs.Option.{option_map}
-use Rattle.replaying.specs.Lines.{go_on, number_in, split_word, hang_word, join_word, begins_with, join_of, join_in, step_in}
+use Rattle.console.specs.Decimals.{go_on, value_in, capped}
+use Rattle.replaying.specs.Lines.{number_in, split_word, hang_word, join_word, begins_with, join_of, join_in, step_in}
 use Rattle.replaying.specs.Forms.{are_digits, Digits, HasForm, LinesRead}
 
 -- numbers
-abbrev value_of : Option ℕ → ℕ
-value_of (Some n) = n
-value_of None = 0
-
-abbrev is_value : Option ℕ → Bool
-is_value (Some n) = true
-is_value None = false
-
-go_on_lem : (v : ℕ) (ds : List ℕ) → are_digits ds ≡ true → go_on v ds ≡ Some (min (number_of v ds) 65535)
-go_on_lem v [] e = refl
-go_on_lem v (d ∷ ds) e =
+go_on_digits : (v : ℕ) (ds : List ℕ) → are_digits ds ≡ true → go_on v ds ≡ Some (number_of v ds)
+go_on_digits v [] e = refl
+go_on_digits v (d ∷ ds) e =
     let p = and_parts (leb 48 d && leb d 57) (are_digits ds) e in
-    ap (λ (b : Bool). pick b (go_on (10 * v + (d - 48)) ds) None) p.0 ∙ go_on_lem (10 * v + (d - 48)) ds p.1
+    ap (λ (b : Bool). pick b (go_on (10 * v + (d - 48)) ds) None) p.0 ∙ go_on_digits (10 * v + (d - 48)) ds p.1
 
-go_off : (v : ℕ) (ds : List ℕ) → are_digits ds ≡ false → go_on v ds ≡ None
-go_off v [] e = let z : ◌≡◌ {A = ℕ} 0 1 = cc in absurd (omega arith)
-go_off v (d ∷ ds) e = by (leb 48 d && leb d 57) e (go_off (10 * v + (d - 48)) ds)
+go_on_none : (v : ℕ) (ds : List ℕ) → are_digits ds ≡ false → go_on v ds ≡ None
+go_on_none v [] e = cc
+go_on_none v (d ∷ ds) e = by (leb 48 d && leb d 57) e (go_on_none (10 * v + (d - 48)) ds)
   where
     by : (b : Bool) → b && are_digits ds ≡ false → (are_digits ds ≡ false → go_on (10 * v + (d - 48)) ds ≡ None) → pick b (go_on (10 * v + (d - 48)) ds) None ≡ None
     by true q rest = rest q
     by false q rest = refl
 
 digits_number : {ds : List ℕ} {n : ℕ} → Digits ds n → number_in ds ≡ Some n
-digits_number {ds} h = from ds h.some ∙ go_on_lem 0 ds h.digits ∙ ap Some h.number
+digits_number {ds} h = ap (capped 65535) (from ds h.some ∙ go_on_digits 0 ds h.digits) ∙ ap Some h.number
   where
-    from : (ds : List ℕ) → 1 ≤ length ds → number_in ds ≡ go_on 0 ds
+    from : (ds : List ℕ) → 1 ≤ length ds → value_in ds ≡ go_on 0 ds
     from [] l = absurd (omega arith)
     from (d ∷ ds) l = refl
 
 number_digits : (ds : List ℕ) (n : ℕ) → number_in ds ≡ Some n → Digits ds n
-number_digits [] n e = absurd (not_both {b = false} (ap is_value e) refl)
+number_digits [] n e = cc
 number_digits (d ∷ ds) n e = ⊎_elim so not_so (either (are_digits (d ∷ ds)))
   where
     so : are_digits (d ∷ ds) ≡ true → Digits (d ∷ ds) n
-    so h = record { some = omega arith; digits = h; number = ap value_of (sym (go_on_lem 0 (d ∷ ds) h) ∙ e) }
+    so h =
+        let q : Some (min (number_of 0 (d ∷ ds)) 65535) ≡ Some n = sym (ap (capped 65535) (go_on_digits 0 (d ∷ ds) h)) ∙ e in
+        record { some = omega arith; digits = h; number = cc }
 
     not_so : are_digits (d ∷ ds) ≡ false → Digits (d ∷ ds) n
-    not_so h = absurd (not_both {b = false} (ap is_value (sym (go_off 0 (d ∷ ds) h) ∙ e)) refl)
+    not_so h =
+        let q : None ≡ Some n = sym (ap (capped 65535) (go_on_none 0 (d ∷ ds) h)) ∙ e in
+        absurd (cc)
 
 -- words
 begins_parted : (w s : List ℕ) → begins_with w s ≡ true → s ≡ w ++ drop (length w) s
 begins_parted [] s e = refl
-begins_parted (x ∷ w) [] e = let z : ◌≡◌ {A = ℕ} 0 1 = cc in absurd (omega arith)
+begins_parted (x ∷ w) [] e = cc
 begins_parted (x ∷ w) (y ∷ s) e =
     let p = and_parts (eqb x y) (begins_with w s) e in
     ap₂ (λ (a : ℕ) (u : List ℕ). a ∷ u) (sym (eqb-true x y p.0)) (begins_parted w s p.1)
@@ -88,20 +85,12 @@ space_parts u l =
     there = ⊎_elim (λ h. h) (λ h. absurd (omega (arith, place_none 32 u h))) (either (is_in 32 u))
 
 -- from a line to its form
-abbrev step_of : Option Step → Step
-step_of (Some t) = t
-step_of None = Split 0
-
-abbrev is_taken : Option Step → Bool
-is_taken (Some t) = true
-is_taken None = false
-
-not_taken : {A : Type 0} {t : Step} → None ≡ Some t → A
-not_taken e = absurd (not_both {b = false} (ap is_taken e) refl)
-
 module _ (s : List ℕ) (t : Step) where
   as_form : {u : Step} → Some u ≡ Some t → HasForm s u → HasForm s t
-  as_form e = subst (λ (v : Step). HasForm s v) (ap step_of e)
+  as_form {u} e = let q : u ≡ t = cc in subst (λ (v : Step). HasForm s v) q
+
+  not_taken : {A : Type 0} → None ≡ Some t → A
+  not_taken e = absurd (cc)
 
   split_form : (n : Option ℕ) → number_in (drop 6 s) ≡ n → s ≡ split_word ++ drop 6 s → option_map Split n ≡ Some t → HasForm s t
   split_form (Some n) h p e = as_form e (record { ds = drop 6 s; text = p; number = number_digits (drop 6 s) n h })

@@ -94,6 +94,13 @@ module _ {s j u t : List ℕ} {line : ℕ} (g : Going s j u t line) (some : 0 < 
   going_ended {t'} {line'} e h =
       replayed (ap (λ (b : Bool). pick b (over_lines (stand t' line' (Err e)) (lines_of (drop (suc n) u))) (stand t' line' (Err e))) (sym (not_through e)) ∙ turned (Err e) h)
 
+-- a step on the list s without fault: the list after it is given at the front of o
+pub record GivenList (s : List ℕ) (t : Step) (o : List ℕ) (long : ℕ) : Type 0 where
+  pub faultless : step_fault (plate_of s) t ≡ 0
+  pub fits : long ≤ 1024
+  pub list : take long o ≡ list_after s t
+  pub accepted : list_fault (take long o) ≡ 0
+
 -- what a call for a step on an accepted list leaves in 1,024 bytes
 module _ (s : List ℕ) (t : Step) (none : list_fault s ≡ 0) (o o' : List ℕ) (v : Listed) (room : length o ≡ 1024) (says : EditSays s t o o' v) where
   abbrev fault : ℕ
@@ -115,23 +122,21 @@ module _ (s : List ℕ) (t : Step) (none : list_fault s ≡ 0) (o o' : List ℕ)
       by zero q h = (given q h).0
       by (suc e) q h = h.0
 
-  module _ (z : v.number ≡ 0) where
-    pub no_fault : fault ≡ 0
-    no_fault = sym number_is ∙ z
+  parts : fault ≡ 0 → (v.number ≡ 0) × (v.long ≡ length (list_after s t)) × (o' ≡ over (list_after s t) o)
+  parts q = given q (subst (λ (k : ℕ). EditWith k s t o o' v) q told)
 
-    parts : (v.number ≡ 0) × (v.long ≡ length (list_after s t)) × (o' ≡ over (list_after s t) o)
-    parts = given no_fault (subst (λ (k : ℕ). EditWith k s t o o' v) no_fault told)
-
-    pub given_fits : v.long ≤ 1024
-    given_fits = omega (arith, parts.1, (journal.after s t none no_fault).longest)
-
-    pub given_list : take v.long o' ≡ list_after s t
-    given_list =
-        ap (take v.long) parts.2
-        ∙ take_at (list_after s t) (drop (length (list_after s t)) o) v.long (sym parts.1)
-
-    pub given_accepted : list_fault (take v.long o') ≡ 0
-    given_accepted = ap list_fault given_list ∙ (journal.after s t none no_fault).accepted
+  pub given_list : v.number ≡ 0 → GivenList s t o' v.long
+  given_list z =
+      let q = sym number_is ∙ z in
+      let p = parts q in
+      let same : take v.long o' ≡ list_after s t = ap (take v.long) p.2 ∙ take_at (list_after s t) (drop (length (list_after s t)) o) v.long (sym p.1) in
+      let after = journal.after s t none q in
+      record {
+        faultless = q;
+        fits = omega (arith, p.1, after.longest);
+        list = same;
+        accepted = ap list_fault same ∙ after.accepted;
+      }
 
 -- how the replay stands after a line: the list s before it
 module _ (s : List ℕ) (line : ℕ) where

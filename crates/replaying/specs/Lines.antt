@@ -1,20 +1,15 @@
 -- The lines of a journal, and the step that a line stands for.
-use Rattle.std.specs.Prelude.{Bool, true, false, ◌&&◌, List, [], ◌∷◌, ℕ, ◌+◌, ◌-◌, ◌*◌, min, eqb, ltb, leb, length, take, drop, Option, Some, None}
+use Rattle.std.specs.Prelude.{Bool, true, false, ◌&&◌, List, [], ◌∷◌, ℕ, ◌+◌, eqb, ltb, length, take, drop, Option, Some, None}
 use Rattle.std.specs.Option.{option_map}
 use Rattle.finite.specs.Base.{pick}
+use Rattle.console.specs.Decimals.{value_in, capped}
 use Rattle.embedding.specs.Read.{place_of}
 use Rattle.embedding.specs.declared.journal.Step.{Step}
 use Rattle.embedding.specs.declared.journal.Step.TheVariants.{Split, Hang, Join}
 
--- digits behind those that stand for v; '0' is 48 and '9' is 57; a number above 65,535 counts as 65,535
-abbrev pub go_on : ℕ → List ℕ → Option ℕ
-go_on v [] = Some (min v 65535)
-go_on v (d ∷ ds) = pick (leb 48 d && leb d 57) (go_on (10 * v + (d - 48)) ds) None
-
--- no digits are no number
+-- a number above 65,535 counts as 65,535
 abbrev pub number_in : List ℕ → Option ℕ
-number_in [] = None
-number_in (d ∷ ds) = go_on 0 (d ∷ ds)
+number_in s = capped 65535 (value_in s)
 
 -- the words, each with its space
 -- "split "

@@ -10,6 +10,7 @@ fn number_in(digits: &[u8]) -> Option<usize>
     ensures { result ≡ number_in digits.now }
 {
     let number = decimal(digits)?;
+    // As: no `From` takes a u32 to a usize.
     Some(number.min(65535) as usize)
 }
 

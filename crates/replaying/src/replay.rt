@@ -26,7 +26,8 @@ impl From<Refusal> for Stop {
     }
 }
 
-/// An accepted list, that after the last step that was taken, and the number of lines gone over.
+/// An accepted list, that after the last step that was taken, and the number of lines gone over. An array with its length holds the
+/// list, since nothing is allocated.
 #[derive(Clone, Copy)]
 pub struct Replay {
     list: [u8; 1024],
@@ -38,15 +39,17 @@ pub struct Replay {
 
 impl Replay {
     /// Before the first line. A list that is refused has no replay.
-    pub fn start(list: [u8; 1024], long: usize) -> Result<Replay, Refusal>
-        requires { long ≤ 1024 }
-        ensures number { fault_of result ≡ list_fault (take long list) }
-        ensures begun { IfOk result (λ replay. (take replay.long replay.list ≡ take long list) × (replay.line ≡ 0)) }
+    pub fn start(list: &[u8]) -> Result<Replay, Refusal>
+        requires { length list.now ≤ 1024 }
+        ensures number { fault_of result ≡ list_fault list.now }
+        ensures begun { IfOk result (λ replay. (take replay.long replay.list ≡ list.now) × (replay.line ≡ 0)) }
     {
-        read_list(&list[..long])?;
+        read_list(list)?;
+        let mut held = [0; 1024];
+        held[..list.len()].copy_from_slice(list);
         Ok(Replay {
-            list,
-            long,
+            list: held,
+            long: list.len(),
             line: 0,
         })
     }

@@ -1,68 +1,53 @@
 //! Walks short files, with the number of each; puts older ones in order; then writes fields and shows their bytes.
 #![tactic(auto)]
 
-ghost use Rattle.std.specs.Prelude.{◌≡◌, ◌≤◌, length};
-ghost use Rattle.refusals.specs.Numbers.{fault_of};
-
 use fields::ordering::order_fields;
 use fields::writing::write_field;
 use fields::{walk_list, walk_older, walk_shape};
 use refusals::Refusal;
 use std::io;
 
-// The number of an answer: 0 where nothing is refused.
-fn fault<T>(answer: &Result<T, Refusal>) -> u8
-    ensures { result ≡ fault_of answer.now }
-{
-    match answer {
-        Ok(_) => 0,
-        Err(refusal) => refusal.number(),
-    }
-}
-
-// Writes a line: the file, the case and the number.
-fn show(rt: &impl Print, file: &[u8], label: &[u8], number: u8) -> io::Result<()> {
+// Writes a line: the file, the case and the number of its refusal, 0 where there is none.
+fn show(rt: &impl Print, file: &[u8], label: &[u8], refusal: Option<Refusal>) -> io::Result<()> {
+    let number = refusal.map_or(0, Refusal::number);
     rt.write_all(file)?;
     rt.write_all(label)?;
     rt.write_all(b": ")?;
     println!(rt; "{number}")
 }
 
+// A label and a file, here and below, are a case; a struct of both makes each call longer.
 fn list(rt: &impl Print, label: &[u8], s: &[u8]) -> io::Result<()> {
-    show(rt, b"list ", label, fault(&walk_list(s)))
+    show(rt, b"list ", label, walk_list(s).err())
 }
 
 fn shape(rt: &impl Print, label: &[u8], s: &[u8]) -> io::Result<()> {
-    show(rt, b"shape ", label, fault(&walk_shape(s)))
+    show(rt, b"shape ", label, walk_shape(s).err())
 }
 
-// An older file of either kind, in any order.
+// An older file in any order, of the kind that `walk_older` is told.
 fn older(rt: &impl Print, label: &[u8], s: &[u8], is_shape: bool) -> io::Result<()> {
-    show(rt, b"older ", label, fault(&walk_older(s, is_shape)))
+    show(rt, b"older ", label, walk_older(s, is_shape).err())
 }
 
-// Writes fields of zeros, of these tags and lengths, and gives the place behind them; 0 where there is no room.
-fn zeros(out: &mut [u8], fields: &[(u8, usize)]) -> usize
-    ensures { result ≤ length out.new }
-{
+// Writes fields of zeros, of these tags and lengths, as many as there is room for, and gives their bytes.
+fn zeros<'a>(out: &'a mut [u8], fields: &[(u8, usize)]) -> &'a [u8] {
     let content = [0u8; 4096];
     let mut at = 0;
     for (tag, long) in fields {
         if *long > content.len() || out.len() - at < 3 + *long {
-            return 0;
+            break;
         }
         at = write_field(out, at, *tag, &content[..*long]);
     }
-    at
+    &out[..at]
 }
 
+// A list of fields of zeros, of these lengths for strips, order, remark and limits of bends.
 fn long_list(
     rt: &impl Print,
     label: &[u8],
-    strips: usize,
-    order: usize,
-    remark: usize,
-    limits: usize,
+    [strips, order, remark, limits]: [usize; 4],
 ) -> io::Result<()> {
     let fields = [
         (0x01, 2),
@@ -74,16 +59,14 @@ fn long_list(
         (0x07, limits),
     ];
     let mut s = [0u8; 4096];
-    let n = zeros(&mut s, &fields);
-    list(rt, label, &s[..n])
+    list(rt, label, zeros(&mut s, &fields))
 }
 
+// A shape of fields of zeros, of these lengths for angles, right bends and remark.
 fn long_shape(
     rt: &impl Print,
     label: &[u8],
-    angles: usize,
-    rights: usize,
-    remark: usize,
+    [angles, rights, remark]: [usize; 3],
 ) -> io::Result<()> {
     let fields = [
         (0x11, 2),
@@ -93,8 +76,7 @@ fn long_shape(
         (0x15, remark),
     ];
     let mut s = [0u8; 4096];
-    let n = zeros(&mut s, &fields);
-    shape(rt, label, &s[..n])
+    shape(rt, label, zeros(&mut s, &fields))
 }
 
 // Where the walk over a list ends.
@@ -425,36 +407,36 @@ fn shape_lengths(rt: &impl Print) -> io::Result<()> {
     )
 }
 
-// Limits of a list: contents of zeros, of these lengths for strips, order, remark and limits of bends.
+// Limits of a list.
 fn long_lists(rt: &impl Print) -> io::Result<()> {
     // The longest list, 745 bytes.
-    long_list(rt, b"256 256 80 128", 256, 256, 80, 128)?;
+    long_list(rt, b"256 256 80 128", [256, 256, 80, 128])?;
     // A remark of 81 bytes.
-    long_list(rt, b"256 256 81 128", 256, 256, 81, 128)?;
+    long_list(rt, b"256 256 81 128", [256, 256, 81, 128])?;
     // Strips of odd length.
-    long_list(rt, b"257 256 80 128", 257, 256, 80, 128)?;
+    long_list(rt, b"257 256 80 128", [257, 256, 80, 128])?;
     // Strips over 256 bytes.
-    long_list(rt, b"258 256 80 128", 258, 256, 80, 128)?;
+    long_list(rt, b"258 256 80 128", [258, 256, 80, 128])?;
     // An order over 256 bytes.
-    long_list(rt, b"256 257 80 128", 256, 257, 80, 128)?;
+    long_list(rt, b"256 257 80 128", [256, 257, 80, 128])?;
     // An order of odd length.
-    long_list(rt, b"256 255 80 128", 256, 255, 80, 128)?;
+    long_list(rt, b"256 255 80 128", [256, 255, 80, 128])?;
     // Limits of 129 bytes.
-    long_list(rt, b"256 256 80 129", 256, 256, 80, 129)
+    long_list(rt, b"256 256 80 129", [256, 256, 80, 129])
 }
 
-// Limits of a shape: contents of zeros, of these lengths for angles, right bends and remark.
+// Limits of a shape.
 fn long_shapes(rt: &impl Print) -> io::Result<()> {
     // The longest shape, 611 bytes.
-    long_shape(rt, b"256 256 80", 256, 256, 80)?;
+    long_shape(rt, b"256 256 80", [256, 256, 80])?;
     // A remark of 81 bytes.
-    long_shape(rt, b"256 256 81", 256, 256, 81)?;
+    long_shape(rt, b"256 256 81", [256, 256, 81])?;
     // Angles over 256 bytes.
-    long_shape(rt, b"257 256 80", 257, 256, 80)?;
+    long_shape(rt, b"257 256 80", [257, 256, 80])?;
     // Right bends over 256 bytes.
-    long_shape(rt, b"256 258 80", 256, 258, 80)?;
+    long_shape(rt, b"256 258 80", [256, 258, 80])?;
     // Angles of odd length.
-    long_shape(rt, b"255 256 80", 255, 256, 80)
+    long_shape(rt, b"255 256 80", [255, 256, 80])
 }
 
 // Older files: the walk in any order.
@@ -515,9 +497,9 @@ fn show_bytes(rt: &impl Print, s: &[u8]) -> io::Result<()> {
     rt.write_all(b"\n")
 }
 
-// Puts an older file in order, and shows the number and the bytes of the memory lent.
+// Puts an older file, of a case, in order, and shows the number and the bytes of the memory lent.
 fn order_into(rt: &impl Print, label: &[u8], s: &[u8], out: &mut [u8]) -> io::Result<()> {
-    show(rt, b"order ", label, fault(&order_fields(s, out)))?;
+    show(rt, b"order ", label, order_fields(s, out).err())?;
     show_bytes(rt, out)
 }
 

@@ -1,12 +1,21 @@
--- `from_text::show` prints as many bytes as were written; they stand within the lent memory by the promise.
-use mathlib.Core.Path.{sym}
-use lib.Seq.{length-take-le}
-use Rattle.plates.specs.Answers.{shaped}
+-- What was written is within the lent memory, by the promise of `read_text`.
+use Rattle.std.proofs.Common.{rules, ◌≡◌, ℕ, ◌≤◌, Result, Ok, Err, IfOk, replicate}
+use Rattle.refusals.specs.declared.Refusal.{Refusal}
+use Rattle.plates.specs.declared.encoding.Written.{Written}
+use Rattle.plates.specs.Answers.{shaped_of}
 use Rattle.texts.proofs.Within.{file_within}
 use Rattle.from_text.proofs.show.Goals as goal
 
-pub slice_bounds-write_all-end : goal.slice_bounds-write_all-end
-slice_bounds-write_all-end g c = let a = c.args in file_within a.list.now a.text.now a.out.now c.read_text.new.out (shaped 0 c.in-Ok.file.long c.in-Ok.file.bends) c.in-Ok.ensures
+abbrev long_of : Result Written Refusal → Result ℕ Refusal
+long_of (Ok w) = Ok w.long
+long_of (Err e) = Err e
 
-pub slice_bounds-write_all-end-in-Ok : goal.slice_bounds-write_all-end-in-Ok
-slice_bounds-write_all-end-in-Ok g c = let a = c.args in sym (length-take-le _ _ (file_within a.list.now a.text.now a.out.now c.read_text.new.out (shaped 0 c.in-Ok.file.long c.in-Ok.file.bends) c.in-Ok.ensures))
+within : (m : ℕ) (r : Result Written Refusal) → (shaped_of r).long ≤ m → IfOk (long_of r) (λ n. n ≤ m)
+within m (Ok w) l = l
+within m (Err e) l = tt
+
+pub write_answer-requires : goal.write_answer-requires
+write_answer-requires g c =
+    let r = c.read_text.result in
+    let told : c.map-answer.result ≡ long_of r = search rules in
+    rw told (within _ r (file_within c.args.list.now c.args.text.now (replicate 528 0) _ (shaped_of r) c.read_text.ensures))

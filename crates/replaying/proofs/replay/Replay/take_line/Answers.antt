@@ -5,31 +5,27 @@ use Rattle.std.proofs.Common.{rules, Ok, Err, Some}
 use Rattle.plates.specs.Answers.{listed_of}
 use Rattle.replaying.specs.declared.replay.Stop.TheVariants as S
 use Rattle.replaying.specs.Lines.{step_in}
-use Rattle.replaying.proofs.Turns.{number_is, no_fault, given_fits, given_list, given_accepted, refused, taken}
+use Rattle.replaying.proofs.Turns.{number_is, given_list, refused, taken}
 use Rattle.replaying.proofs.replay.Replay.take_line.Goals as goal
 
 pub returns-in_err-long : goal.returns-in_err-long
 returns-in_err-long c =
-    let told : c.from_residual-in_err-long.result ≡ Err (S.Refused c.in_err-long.field-0.0) = search rules in
-    let x-is : Some c.in_ok-step.step ≡ step_in c.args.line.now = search rules in
     let r = c.in_err-long.field-0.0 in
-    rw told (refused (take c.args.self.now.long c.args.self.now.list) c.args.self.now.line c.in_ok-step.step x-is r
-    (number_is (take c.args.self.now.long c.args.self.now.list) c.in_ok-step.step c.args.self.now.accepted _ c.edit_list.new.out (listed_of (Err r)) refl c.in_err-long.ensures))
+    let told : c.from_residual-in_err-long.result ≡ Err (S.Refused r) = search rules in
+    let x-is : Some c.in_ok-step.step ≡ step_in c.args.line.now = search rules in
+    let s = take c.args.self.now.long c.args.self.now.list in
+    rw told (refused s c.args.self.now.line c.in_ok-step.step x-is r
+    (number_is s c.in_ok-step.step c.args.self.now.accepted _ c.edit_list.new.out (listed_of (Err r)) refl c.in_err-long.ensures))
 
 pub invariant_of-self-2 : goal.invariant_of-self-2
 invariant_of-self-2 c =
     let s = take c.args.self.now.long c.args.self.now.list in
-    let v = listed_of (Ok c.in_ok-long.long) in
-    record {
-      fits = given_fits s c.in_ok-step.step c.args.self.now.accepted _ c.edit_list.new.out v refl c.in_ok-long.ensures refl;
-      accepted = given_accepted s c.in_ok-step.step c.args.self.now.accepted _ c.edit_list.new.out v refl c.in_ok-long.ensures refl;
-    }
+    let g = given_list s c.in_ok-step.step c.args.self.now.accepted _ c.edit_list.new.out (listed_of (Ok c.in_ok-long.long)) refl c.in_ok-long.ensures refl in
+    record { fits = g.fits; accepted = g.accepted }
 
 pub returns : goal.returns
 returns c =
     let x-is : Some c.in_ok-step.step ≡ step_in c.args.line.now = search rules in
     let s = take c.args.self.now.long c.args.self.now.list in
-    let v = listed_of (Ok c.in_ok-long.long) in
-    taken s c.args.self.now.line c.in_ok-step.step x-is tt
-    (no_fault s c.in_ok-step.step c.args.self.now.accepted _ c.edit_list.new.out v refl c.in_ok-long.ensures refl)
-    (given_list s c.in_ok-step.step c.args.self.now.accepted _ c.edit_list.new.out v refl c.in_ok-long.ensures refl)
+    let g = given_list s c.in_ok-step.step c.args.self.now.accepted _ c.edit_list.new.out (listed_of (Ok c.in_ok-long.long)) refl c.in_ok-long.ensures refl in
+    taken s c.args.self.now.line c.in_ok-step.step x-is tt g.faultless g.list
