@@ -7,8 +7,8 @@ use Prim.Native.Nat.{ℕ, zero, suc, ◌+◌, ◌≤◌, ◌<◌}
 use native.Mathlib.Omega.{arith}
 use lib.ListN.{length, take, drop, set}
 use lib.Seq.{take_all, take-add}
-use Rattle.finite.proofs.Members.{in_none, in_here, in_more, in_past, in_append, in_left, in_right, distinct_head, distinct_rest, distinct_more}
-use Rattle.finite.proofs.Tests.{either, equal_or_not, not_both, not_true_false}
+use Rattle.finite.proofs.Members.{in_none, in_past, in_append, in_left, in_right, distinct_head, distinct_rest, distinct_append}
+use Rattle.finite.proofs.Tests.{either, equal_or_not, not_true_false}
 use Rattle.embedding.specs.Plates.{is_in, Plate, degree, before, part_of, distinct}
 use Rattle.embedding.specs.Read.{place_of}
 use Rattle.embedding.specs.Edits.{laid, put_before, rename, renamed}
@@ -93,13 +93,6 @@ module _ (rows : ℕ → List ℕ) where
 
       last : is_in x (laid n rows) ≡ false → put_before x y (laid n rows) ++ put_before x y (rows n) ≡ put_before x y (laid n rows ++ rows n)
       last e = ap (λ (l : List ℕ). l ++ put_before x y (rows n)) (put_none x y (laid n rows) e) ∙ sym (put_right x y (laid n rows) (rows n) e)
-
-distinct_append : (xs ys : List ℕ) → distinct xs ≡ true → distinct ys ≡ true → ((x : ℕ) → is_in x xs ≡ true → is_in x ys ≡ true → ⊥) → distinct (xs ++ ys) ≡ true
-distinct_append [] ys d e h = e
-distinct_append (x ∷ xs) ys d e h =
-    distinct_more x (xs ++ ys)
-    (not_true_false (is_in x (xs ++ ys)) (λ i. ⊎_elim (λ j. not_both j (distinct_head x xs d)) (λ j. h x (in_here x xs) j) (in_append x xs ys i)))
-    (distinct_append xs ys (distinct_rest x xs d) e (λ z i j. h z (in_more z x xs i) j))
 
 module _ (p : Plate) (o : Ordered p) where
   order_front : (n : ℕ) → laid n (part_of p) ≡ take (before p n) p.order

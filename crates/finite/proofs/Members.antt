@@ -10,7 +10,7 @@ use borrow.Author.Tests.{eqb-true, eq-eqb, ltb-true, lt-ltb, not-true}
 use lib.Dec.{eqb, ltb}
 use lib.ListN.{length, get_or}
 use Rattle.finite.specs.Base.{is_in, distinct, all_below, last_of}
-use Rattle.finite.proofs.Tests.{or_cases, or_left, or_right, and_left, and_right, and_both, not_of_false}
+use Rattle.finite.proofs.Tests.{or_cases, or_left, or_right, and_left, and_right, and_both, not_of_false, not_both, not_true_false}
 
 pub in_none : (x : ℕ) → is_in x [] ≡ true → ⊥
 in_none x e = false≢true e
@@ -63,6 +63,14 @@ in_append x (z ∷ xs) ys e =
     ⊎_elim (λ q. inl (subst (λ (y : ℕ). is_in x (y ∷ xs) ≡ true) q (in_here x xs)))
     (λ h. ⊎_elim (λ k. inl (in_more x z xs k)) inr (in_append x xs ys h))
     (in_cases x z (xs ++ ys) e)
+
+-- two lists of distinct numbers that share none
+pub distinct_append : (xs ys : List ℕ) → distinct xs ≡ true → distinct ys ≡ true → ((x : ℕ) → is_in x xs ≡ true → is_in x ys ≡ true → ⊥) → distinct (xs ++ ys) ≡ true
+distinct_append [] ys d e h = e
+distinct_append (x ∷ xs) ys d e h =
+    distinct_more x (xs ++ ys)
+    (not_true_false (is_in x (xs ++ ys)) (λ i. ⊎_elim (λ j. not_both j (distinct_head x xs d)) (λ j. h x (in_here x xs) j) (in_append x xs ys i)))
+    (distinct_append xs ys (distinct_rest x xs d) e (λ z i j. h z (in_more z x xs i) j))
 
 pub in_right : (x : ℕ) (xs ys : List ℕ) → is_in x ys ≡ true → is_in x (xs ++ ys) ≡ true
 in_right x [] ys e = e

@@ -134,6 +134,10 @@ pub when_zero : (b : Bool) → when b 0 ≡ 0
 when_zero true = refl
 when_zero false = refl
 
+pub when_swap : (a b : Bool) (n : ℕ) → when a (when b n) ≡ when b (when a n)
+when_swap true b n = refl
+when_swap false b n = sym (when_zero b)
+
 pub when_most : (b : Bool) (x : ℕ) → when b x ≤ x
 when_most true x = le_refl x
 when_most false x = zero-le

@@ -1,6 +1,6 @@
 -- Sums over the numbers of one label, such as those of one orbit.
-use mathlib.Core.Path.{◌≡◌, refl, sym, ap, ◌∙◌}
-use mathlib.Core.Bool.{Bool, true, false}
+use mathlib.Core.Path.{◌≡◌, sym, ap, ◌∙◌}
+use mathlib.Core.Bool.{Bool}
 use mathlib.Core.List.{List}
 use Prim.Native.Nat.{ℕ, suc, ◌+◌, ◌≤◌, ◌<◌}
 use native.Mathlib.Omega.{arith}
@@ -8,18 +8,13 @@ use borrow.Author.Tests.{eqb-true, eq-eqb, ne_eqb}
 use lib.Dec.{eqb}
 use lib.ListN.{length}
 use Rattle.finite.specs.Base.{when, is_in}
-use Rattle.finite.proofs.Sums.{sum_below, sum_over, sum_cong, sum_none, sum_add, sum_swap, sum_at, sum_when, when_add}
+use Rattle.finite.proofs.Sums.{sum_below, sum_over, sum_cong, sum_none, sum_add, sum_swap, sum_at, sum_when, when_add, when_swap}
 use Rattle.finite.proofs.Tests.{same_test}
 use Rattle.finite.proofs.Members.{all_of}
 use Rattle.finite.proofs.Pigeonhole.{at_most}
 use Rattle.finite.proofs.Orbit.{OneToOne, start, walk, rest, orbit, lead_in, stops, goes, enough, walk_met, walk_distinct, walk_below, orbit_sum, orbit_sym, lead-in, lead_below, lead_same, sum_through}
 use Rattle.maps.proofs.Labels.{Labels, Finer}
 use Rattle.maps.proofs.Cycles.{lead_next, in_orbit, lead_labels}
-
-when_swap : (a b : Bool) (x : ℕ) → when a (when b x) ≡ when b (when a x)
-when_swap true b x = refl
-when_swap false true x = refl
-when_swap false false x = refl
 
 -- the sum over the numbers below n that have label r
 abbrev pub sum_along : ℕ → (ℕ → ℕ) → ℕ → (ℕ → ℕ) → ℕ

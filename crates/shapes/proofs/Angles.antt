@@ -8,13 +8,12 @@ use borrow.Author.Tests.{eqb-true, eq-eqb}
 use lib.Dec.{eqb}
 use lib.ListN.{length}
 use Rattle.finite.proofs.Members.{in_here, last_in}
-use Rattle.finite.proofs.Sums.{when_add, sum_cong, sum_add, sum_at}
+use Rattle.finite.proofs.Sums.{when_add, when_swap, sum_cong, sum_add, sum_at}
 use Rattle.embedding.specs.Plates.{when, is_in, Plate, darts, twin, leaves, ends_at, degree, part_of, last_of}
 use Rattle.embedding.proofs.Rotation.{Ordered, twin_twin, twin_dart, length_part, part_leaves}
 use Rattle.embedding.proofs.Faultless.{Faultless}
 use Rattle.embedding.proofs.Totals.{end_sum, ends_at_below}
 use Rattle.embedding.proofs.Degrees.{degree_ends, degree_most, degree_least}
-use Rattle.shapes.proofs.Moves.{when_swap}
 
 some_last : (ds : List ℕ) → 1 ≤ length ds → is_in (last_of ds) ds ≡ true
 some_last [] l = absurd (omega arith)

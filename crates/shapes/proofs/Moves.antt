@@ -1,13 +1,13 @@
 -- Units moved from face to face across strips: between any two faces, as many as wanted.
 use mathlib.Core.Path.{◌≡◌, refl, sym, ap, subst, ◌∙◌}
-use mathlib.Core.Bool.{Bool, true, false}
+use mathlib.Core.Bool.{Bool, true}
 use mathlib.Core.List.{List, [], ◌∷◌}
 use Prim.Native.Nat.{ℕ, zero, suc, ◌+◌, ◌<◌}
 use native.Mathlib.Omega.{arith}
 use borrow.Author.Tests.{eqb-true, eq-eqb}
 use lib.Dec.{eqb}
 use lib.ListN.{length, get_or}
-use Rattle.finite.proofs.Sums.{when_add, when_zero, sum_over, sum_cong, sum_at, sum_over_cong}
+use Rattle.finite.proofs.Sums.{when_add, when_swap, when_zero, sum_over, sum_cong, sum_at, sum_over_cong}
 use Rattle.finite.proofs.Tests.{same_test, eqb_turned}
 use Rattle.embedding.specs.Plates.{when, Plate, darts, twin, leaves, face_of, faces, connected}
 use Rattle.embedding.proofs.Rotation.{Ordered, twin_twin, twin_dart, after_below}
@@ -18,10 +18,6 @@ use Rattle.shapes.proofs.Places.{index_sum, index_after, index_of_lead, face_bel
 pub over_add : (ds : List ℕ) (f g : ℕ → ℕ) → sum_over ds (λ d. f d + g d) ≡ sum_over ds f + sum_over ds g
 over_add [] f g = refl
 over_add (d ∷ ds) f g = omega (arith, over_add ds f g)
-
-pub when_swap : (a b : Bool) (n : ℕ) → when a (when b n) ≡ when b (when a n)
-when_swap true b n = refl
-when_swap false b n = sym (when_zero b)
 
 eqb_twin : (d e : ℕ) → eqb (twin d) e ≡ eqb d (twin e)
 eqb_twin d e =

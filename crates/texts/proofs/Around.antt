@@ -16,7 +16,8 @@ use Rattle.embedding.specs.Read.{lead}
 use Rattle.plates.specs.Plates.{Plate, pick, when, is_in, is_lowest, distinct, darts, walk_from, face_of, faces_from, faces}
 use Rattle.plates.specs.Text.{Entry, closed}
 use Rattle.plates.specs.Lines.{without, sequence, line, lines, face_entries, darts_of, all_above, ascending, ByFaces}
-use Rattle.texts.proofs.Without.{out_in, in_out, not_out, out_distinct, out_ascending, in_above, distinct_append}
+use Rattle.finite.proofs.Members.{distinct_append}
+use Rattle.texts.proofs.Without.{out_in, in_out, not_out, out_distinct, out_ascending, in_above}
 
 -- the darts of faces one behind the other
 abbrev pub around : Plate → List ℕ → List ℕ

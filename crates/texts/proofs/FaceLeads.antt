@@ -6,7 +6,7 @@ use Prim.Native.Nat.{ℕ, zero, suc, ◌+◌, ◌%◌, ◌≤◌, ◌<◌}
 use native.Mathlib.Omega.{arith}
 use lib.Dec.{eqb, ltb}
 use lib.ListN.{length, get_or}
-use borrow.Author.Tests.{eq-eqb, ne_eqb, ltb-false}
+use borrow.Author.Tests.{ltb-false}
 use Rattle.std.specs.Prelude.{Option, Some, None, unwrap_or}
 use Rattle.std.specs.List.{position_or_len}
 use Rattle.finite.proofs.Tests.{eqb_turned}
@@ -19,7 +19,7 @@ use Rattle.embedding.proofs.Rotation.{Ordered, after_one_to_one}
 use Rattle.embedding.proofs.Faces.{face_start, lead_least}
 use Rattle.embedding.proofs.Degrees.{darts_few}
 use Rattle.embedding.proofs.Numbering.{follows_face}
-use Rattle.embedding.proofs.Answers.{number_lead}
+use Rattle.embedding.proofs.Answers.{number_lead, place_hit, place_miss}
 use Rattle.shapes.specs.Counted.{Counted}
 use Rattle.shapes.proofs.Accepted.{faultless, ordered}
 use Rattle.shapes.proofs.HeldPlate.{faces_are}
@@ -27,17 +27,11 @@ use Rattle.shapes.proofs.Places.{face_below_darts, index_of_lead}
 use Rattle.plates.specs.Plates.{Plate, darts, after, face_of, faces}
 
 -- where a number stands first
-here_first : (k x : ℕ) (xs : List ℕ) → k ≡ x → place_of k (x ∷ xs) ≡ 0
-here_first k x xs e = ap (λ (b : Bool). elim b as (λ b. ℕ) [ true ↦ 0 | false ↦ suc (place_of k xs) ]) (eq-eqb k x e)
-
-later_first : (k x : ℕ) (xs : List ℕ) → (k ≡ x → ⊥) → place_of k (x ∷ xs) ≡ suc (place_of k xs)
-later_first k x xs e = ap (λ (b : Bool). elim b as (λ b. ℕ) [ true ↦ 0 | false ↦ suc (place_of k xs) ]) (ne_eqb k x e)
-
 place_first : (xs : List ℕ) (k i : ℕ) → i < length xs → get_or xs i 0 ≡ k → ((j : ℕ) → j < i → get_or xs j 0 ≡ k → ⊥) → place_of k xs ≡ i
 place_first [] k i l e n = absurd (omega arith)
-place_first (x ∷ xs) k zero l e n = here_first k x xs (sym e)
+place_first (x ∷ xs) k zero l e n = place_hit k x xs (sym e)
 place_first (x ∷ xs) k (suc i) l e n =
-    later_first k x xs (λ z. n 0 (omega arith) (sym z))
+    place_miss k x xs (λ z. n 0 (omega arith) (sym z))
     ∙ ap suc (place_first xs k i (omega arith) e (λ j m z. n (suc j) (omega arith) z))
 
 -- what `position` finds

@@ -1,4 +1,4 @@
--- A list without one of its numbers: part by part, what is in it, and that it stays distinct and ascending. Two distinct lists apart make a distinct one. Assumes nothing.
+-- A list without one of its numbers: part by part, what is in it, and that it stays distinct and ascending.
 use mathlib.Core.Path.{◌≡◌, refl, sym, ap, subst, ◌∙◌}
 use mathlib.Core.Bool.{Bool, true, false}
 use mathlib.Core.List.{List, [], ◌∷◌, ◌++◌}
@@ -7,7 +7,7 @@ use Prim.Native.Nat.{ℕ, ◌<◌}
 use lib.Dec.{eqb, ltb}
 use borrow.Author.Tests.{eqb-true, eqb-false, eq-eqb, ne_eqb, ltb-true, lt-ltb}
 use Rattle.finite.proofs.Tests.{and_left, and_right, and_both, not_both, not_true_false}
-use Rattle.finite.proofs.Members.{in_none, in_here, in_more, in_cases, in_append, distinct_head, distinct_rest, distinct_more}
+use Rattle.finite.proofs.Members.{in_none, in_here, in_more, in_cases, distinct_head, distinct_rest, distinct_more}
 use Rattle.plates.specs.Plates.{pick, is_in, distinct}
 use Rattle.plates.specs.Lines.{without, all_above, ascending}
 
@@ -56,13 +56,6 @@ out_distinct x (z ∷ ys) h = go (eqb x z) (out_distinct x ys (distinct_rest z y
     go : (b : Bool) → distinct (without x ys) ≡ true → distinct (pick b (without x ys) (z ∷ without x ys)) ≡ true
     go true ih = ih
     go false ih = distinct_more z (without x ys) (not_true_false (is_in z (without x ys)) (λ k. not_both (out_in x z ys k) (distinct_head z ys h))) ih
-
-pub distinct_append : (xs ys : List ℕ) → distinct xs ≡ true → distinct ys ≡ true → ((x : ℕ) → is_in x xs ≡ true → is_in x ys ≡ true → ⊥) → distinct (xs ++ ys) ≡ true
-distinct_append [] ys h k apart = k
-distinct_append (x ∷ xs) ys h k apart =
-    distinct_more x (xs ++ ys)
-    (not_true_false (is_in x (xs ++ ys)) (λ q. ⊎_elim (λ z. not_both z (distinct_head x xs h)) (λ z. apart x (in_here x xs) z) (in_append x xs ys q)))
-    (distinct_append xs ys (distinct_rest x xs h) k (λ y a b. apart y (in_more y x xs a) b))
 
 -- ascending: each is below all behind it
 above_in : (x y : ℕ) (ys : List ℕ) → all_above x ys ≡ true → is_in y ys ≡ true → x < y
