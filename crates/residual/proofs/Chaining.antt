@@ -3,12 +3,12 @@ use mathlib.Core.Path.{◌≡◌, refl, sym, ap, ◌∙◌, subst}
 use mathlib.Core.Logic.{⊎_elim}
 use mathlib.Core.List.{List, [], ◌∷◌}
 use Prim.Native.Nat.{ℕ, ◌+◌, ◌-◌, ◌≤◌, ◌<◌}
-use native.Mathlib.Decide.{ℕ_discrete, dec_lt}
+use native.Mathlib.Decide.{ℕ_discrete}
 use native.Mathlib.Omega.{arith}
 use borrow.Author.Tests.{le-leb, lt-leb}
 use borrow.Author.Count.{below_more}
 use lib.Dec.{leb}
-use lib.ListN.{length, get_or, set, length-set, get_or-eq_default}
+use lib.ListN.{length, get_or, set, length-set}
 use lib.Seq.{get_or-set_same, get_or-set_other}
 use Rattle.finite.proofs.Order.{Order, less, same, more, order}
 use Rattle.finite.proofs.Sums.{sum_below, sum_more}
@@ -19,10 +19,6 @@ use Rattle.residual.specs.Marks.{Zeros}
 use Rattle.residual.proofs.Passes.{unreached_set}
 
 -- ---- the arcs at each node
-
--- a list that is 0 below its length
-pub zeros_all : (xs : List ℕ) (n k : ℕ) → length xs ≡ n → length xs ≤ k → ((i : ℕ) → i < k → get_or xs i 0 ≡ 0) → Zeros n xs
-zeros_all xs n k l h z = record { long = l; zero_at = λ i. elim (dec_lt i (length xs)) [ yes g ↦ z i (omega arith) | no d ↦ get_or-eq_default xs 0 {n = i} (omega (arith, d)) ] }
 
 -- no arc is below 0
 last_none : (ends lowers uppers : List ℕ) (v : ℕ) → Last ends lowers uppers v 0 0
@@ -95,6 +91,19 @@ module _ {ends lowers uppers last before : List ℕ} {nodes k : ℕ} (c : Chaini
     last_at = λ v h. rw (← e) (c.last_at v (omega (arith, all)));
     before_at = λ a h. c.before_at a (omega (arith, e));
   }
+
+-- where fewer arcs can move, they are linked too
+pub chain_fewer : {ends lowers uppers tops : List ℕ} {n : ℕ} {last before : List ℕ}
+    → ((a : ℕ) → Movable lowers tops a → Movable lowers uppers a) → Chain ends lowers uppers n last before → Chain ends lowers tops n last before
+chain_fewer {ends} {lowers} {uppers} {tops} fewer c = record {
+  last_long = c.last_long;
+  before_long = c.before_long;
+  last_at = λ v h. last_fewer (c.last_at v h);
+  before_at = λ a h. last_fewer (c.before_at a h);
+}
+  where
+    last_fewer : {v k at : ℕ} → Last ends lowers uppers v k at → Last ends lowers tops v k at
+    last_fewer l = record { below = l.below; here = l.here; later = λ b h e m. l.later b h e (fewer b m) }
 
 -- ---- the arcs at one node, from the last down
 

@@ -19,11 +19,6 @@ pub record Chain (ends lowers uppers : List ℕ) (nodes : ℕ) (last before : Li
   pub last_at : (v : ℕ) → v < nodes → Last ends lowers uppers v (length ends) (get_or last v 0)
   pub before_at : (a : ℕ) → a < length ends → Last ends lowers uppers (get_or ends a 0) a (get_or before a 0)
 
--- the arcs that leave each node, and those that enter it, of those that can move
-pub record Chains (tails heads lowers uppers : List ℕ) (nodes : ℕ) (outs outlinks ins inlinks : List ℕ) : Type 0 where
-  pub by_tail : Chain tails lowers uppers nodes outs outlinks
-  pub by_head : Chain heads lowers uppers nodes ins inlinks
-
 -- the reached nodes stand in the first `count` places of the queue
 pub record Lined (dist : List ℕ) (count : ℕ) (queue : List ℕ) : Type 0 where
   pub count_is : count + unreached dist ≡ length dist

@@ -1,6 +1,6 @@
 //! Arcs, tests on one arc, and where a step along it leads.
 ghost use Rattle.std.specs.Prelude.{◌≡◌, ◌+◌, ◌<◌, length, get_or};
-ghost use Rattle.residual.specs.Arcs.{tails_of, heads_of, ends_of};
+ghost use Rattle.residual.specs.Arcs.{tails_of, heads_of, ends_of, top_of};
 ghost use Rattle.residual.specs.Residual.{Tells, Even, Roomy, far_end, Open};
 ghost use Rattle.residual.specs.Graphs.{lists_of};
 
@@ -46,6 +46,13 @@ pub fn is_even(on: bool, cost: u64, near: u64, far: u64) -> bool
     }
 }
 
+// The most units on an arc that is held to `most` above its least.
+pub fn top(arc: Arc, most: u16) -> u16
+    ensures { result ≡ top_of most arc }
+{
+    arc.upper.min(arc.lower.saturating_add(most))
+}
+
 // Whether there is room between an arc's bounds for a step on, or back.
 fn has_room(on: bool, units: u16, lower: u16, upper: u16) -> bool
     ensures { Tells result (Roomy on units lower upper) }
@@ -80,7 +87,7 @@ pub fn open_end(r: ResidualGraph, dist: &[u8], on: bool, a: usize) -> Option<usi
         return None;
     }
     let arc = r.graph.arcs[a];
-    if !has_room(on, r.x[a], arc.lower, arc.upper) {
+    if !has_room(on, r.x[a], arc.lower, top(arc, r.graph.most)) {
         return None;
     }
     Some(v)

@@ -2,17 +2,18 @@
 ghost use Rattle.std.specs.Prelude.{◌≡◌, ℕ, ◌<◌, ◌≤◌, length, get_or};
 ghost use Rattle.residual.specs.Residual.{Fresh};
 ghost use Rattle.residual.specs.Chains.{Chain, Lined};
-ghost use Rattle.residual.specs.Arcs.{ends_of, lowers_of, uppers_of};
+ghost use Rattle.residual.specs.Arcs.{ends_of, lowers_of, tops_of};
 
 use crate::arcs::{Arc, near_end};
 use crate::search::Space;
 
 // For each node its last arc that can move, one more than its number or 0, and for each arc the one before it at the same node; at the ends where a step on, or back, begins.
+// However far the arcs are held, those that can move then are among them.
 pub fn chain(arcs: &[Arc], on: bool, last: &mut [u16], before: &mut [u16])
     requires before_len { length before.old ≡ length arcs.now }
     requires arcs_len_bound { length arcs.now ≤ 1024 }
     requires by_index { (a : ℕ) → a < length arcs.now → get_or (ends_of on arcs.now) a 0 < length last.old }
-    ensures { Chain (ends_of on arcs.now) (lowers_of arcs.now) (uppers_of arcs.now) (length last.old) last.new before.new }
+    ensures { (most : ℕ) → Chain (ends_of on arcs.now) (lowers_of arcs.now) (tops_of most arcs.now) (length last.old) last.new before.new }
 {
     last.fill(0);
     for (a, arc) in arcs.iter().enumerate() {

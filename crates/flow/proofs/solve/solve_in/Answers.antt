@@ -3,7 +3,7 @@ use Rattle.std.proofs.Common.{◌≡◌, sym, ◌∙◌, is_ok, arith}
 use Rattle.flow.specs.Network.{excess}
 use Rattle.flow.specs.Nodes.{network_from}
 use Rattle.flow.proofs.Capping.{spread_total}
-use Rattle.flow.proofs.Arrays.{ready_arcs, capped_arcs, ended_arcs}
+use Rattle.flow.proofs.Tops.{ready_arcs, capped_arcs, ended_arcs}
 use Rattle.flow.proofs.solve.solve_in.Goals as goal
 use Rattle.flow.proofs.solve.solve_in.Goals.{After-prepare}
 
@@ -17,14 +17,14 @@ total_left-most-requires c = omega (arith, spread_total _ _ _ c.spread.ensures, 
 pub link-requires-clause-ready : goal.link-requires-clause-ready
 link-requires-clause-ready c =
     let p = (goal.at.link-requires-clause-ready c).After-prepare in
-    ready_arcs _ _ c.requires.sound _ (left_first p) _ c.prepare.ensures.capped_after _ _ c.spread.ensures (sym c.total_left-most.ensures) _ _ c.prepare.ensures.x_after c.requires.pot_zeros
+    ready_arcs _ _ c.requires.sound _ (left_first p) _ _ c.spread.ensures (sym c.total_left-most.ensures) _ _ c.prepare.ensures c.requires.pot_zeros
 
 pub link-requires-clause-capped : goal.link-requires-clause-capped
 link-requires-clause-capped c =
     let p = (goal.at.link-requires-clause-capped c).After-prepare in
-    capped_arcs _ _ c.requires.sound _ (left_first p) _ c.prepare.ensures.capped_after c.prepare.new.x c.args.pot.now
+    capped_arcs _ _ c.requires.sound _ (left_first p) c.prepare.new.x c.args.pot.now
 
 pub returns : goal.returns
 returns c =
     let p = (goal.at.returns c).After-prepare in
-    ended_arcs _ _ c.requires.sound _ (left_first p) _ c.prepare.ensures.capped_after _ _ c.spread.ensures (sym c.total_left-most.ensures) c.prepare.new.x c.link.new.x c.prepare.ensures.x_after (is_ok c.link.result) c.link.ensures
+    ended_arcs _ _ c.requires.sound _ (left_first p) _ _ c.spread.ensures (sym c.total_left-most.ensures) c.prepare.new.x c.link.new.x c.prepare.ensures (is_ok c.link.result) c.link.ensures
