@@ -4,7 +4,7 @@ use Rattle.std.proofs.Math.ListN.{get_or-map}
 use Rattle.std.proofs.lemmas.List.{length-map}
 use Rattle.std.proofs.lemmas.List.{get_or-map as get_or-map_in}
 use Rattle.residual.specs.declared.arcs.Arc.{Arc}
-use Rattle.residual.specs.Arcs.{no_arc, lowers_of, uppers_of, costs_of, ends_of, top_of, tops_of}
+use Rattle.residual.specs.Arcs.{no_arc, lowers_of, uppers_of, costs_of, ends_of, fars_of, top_of, tops_of}
 
 pub lower_at : (arcs : List Arc) (a : ℕ) → get_or (lowers_of arcs) a 0 ≡ (get_or arcs a no_arc).lower
 lower_at arcs a = get_or-map (λ (arc : Arc). arc.lower) arcs a no_arc
@@ -32,3 +32,7 @@ tops_fit most (arc ∷ arcs) (suc a) = tops_fit most arcs a
 pub ends_long : (on : Bool) (arcs : List Arc) → length (ends_of on arcs) ≡ length arcs
 ends_long true arcs = length-map arcs (λ (arc : Arc). arc.tail)
 ends_long false arcs = length-map arcs (λ (arc : Arc). arc.head)
+
+pub fars_long : (on : Bool) (arcs : List Arc) → length (fars_of on arcs) ≡ length arcs
+fars_long true arcs = ends_long false arcs
+fars_long false arcs = ends_long true arcs

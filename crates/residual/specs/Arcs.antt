@@ -23,6 +23,11 @@ abbrev pub ends_of : Bool → List Arc → List ℕ
 ends_of true arcs = tails_of arcs
 ends_of false arcs = heads_of arcs
 
+-- where it leads
+abbrev pub fars_of : Bool → List Arc → List ℕ
+fars_of true arcs = heads_of arcs
+fars_of false arcs = tails_of arcs
+
 -- what stands for an arc that is not there
 abbrev pub no_arc : Arc
 no_arc = record { tail = 0; head = 0; lower = 0; upper = 0; cost = 0 }

@@ -1,6 +1,6 @@
 //! Arcs, tests on one arc, and where a step along it leads.
 ghost use Rattle.std.specs.Prelude.{◌≡◌, ◌+◌, ◌<◌, length, get_or};
-ghost use Rattle.residual.specs.Arcs.{tails_of, heads_of, ends_of, top_of};
+ghost use Rattle.residual.specs.Arcs.{tails_of, heads_of, ends_of, fars_of, top_of};
 ghost use Rattle.residual.specs.Residual.{Tells, Even, Roomy, far_end, Open};
 ghost use Rattle.residual.specs.Graphs.{lists_of};
 
@@ -68,6 +68,14 @@ pub fn near_end(arcs: &[Arc], on: bool, a: usize) -> usize
     usize::from(if on { arcs[a].tail } else { arcs[a].head })
 }
 
+// Where a step on, or back, along arc a leads, as the arc has it.
+pub fn leads_to(arcs: &[Arc], on: bool, a: usize) -> u8
+    requires { a < length arcs.now }
+    ensures { result ≡ get_or (fars_of on arcs.now) a 0 }
+{
+    if on { arcs[a].head } else { arcs[a].tail }
+}
+
 // Where a step on, or back, along arc a leads: where one the other way begins.
 pub fn far_end(arcs: &[Arc], on: bool, a: usize) -> usize
     requires { a < length arcs.now }
@@ -82,7 +90,7 @@ pub fn open_end(r: ResidualGraph, dist: &[u8], on: bool, a: usize) -> Option<usi
     requires a_in_bounds { a < length r.graph.arcs.now }
     ensures { Open (lists_of r.entry) dist.now on a result }
 {
-    let v = far_end(r.graph.arcs, on, a);
+    let v = r.graph.far_end(on, a);
     if dist[v] < UNREACHED {
         return None;
     }
