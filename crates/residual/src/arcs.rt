@@ -35,6 +35,9 @@ pub fn is_tight(cost: u64, low: u64, high: u64) -> bool
     low <= high && high - low == cost
 }
 
+// `on` says which way a step goes, here and wherever a function takes it: on, from an arc's tail to its head, or back.
+// A flag, since the definitions have it: one function, and one proof, serves both ways.
+
 // Whether an arc of this cost is tight, for a step on, or back, between the potentials of the nodes near and far.
 pub fn is_even(on: bool, cost: u64, near: u64, far: u64) -> bool
     ensures { Tells result (Even on cost near far) }
@@ -95,7 +98,7 @@ pub fn open_end(r: ResidualGraph, dist: &[u8], on: bool, a: usize) -> Option<usi
         return None;
     }
     let arc = r.graph.arcs[a];
-    if !has_room(on, r.x[a], arc.lower, top(arc, r.graph.most)) {
+    if !has_room(on, r.x[a], r.graph.lowers[a], top(arc, r.graph.most)) {
         return None;
     }
     Some(v)

@@ -8,12 +8,15 @@ use crate::arcs::{Arc, leads_to, near_end};
 use crate::search::Space;
 
 // Lent space for the links at one end of each arc: by node its last arc, by arc the one before it and where it leads.
+// Slices of arrays of fixed size, since nothing is allocated; how long they are is known where they are lent, and no value of this type knows the arcs.
 #[derive(Drop)]
 pub struct LinkSpace<'a> {
     pub last: &'a mut [u16],
     pub before: &'a mut [u16],
     pub far: &'a mut [u8],
 }
+
+// `on` is that of `arcs`: a step on, or back.
 
 // Links arc a, if it can move, where a step on, or back, along it begins, and notes where that leads.
 fn link_arc(arcs: &[Arc], on: bool, links: &mut LinkSpace<'_>, a: usize)
@@ -67,6 +70,7 @@ pub fn enqueue_sources(space: &mut Space<'_>) -> usize
     let mut count = 0;
     for v in 0..space.dist.len() {
         if space.dist[v] == 0 {
+            // With `as`: there are 255 nodes at most, and try_from would test it again.
             space.queue[count] = v as u8;
             count += 1;
         }

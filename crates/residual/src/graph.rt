@@ -17,21 +17,24 @@ pub struct Links<'a> {
 }
 
 // Arcs between so many nodes, each held to `most` units above its least, linked where they begin and where they end.
+// The least of each stands in a list too: a step back asks for nothing else of an arc.
 #[derive(Clone, Copy)]
 pub struct Graph<'a> {
     pub arcs: &'a [Arc],
     pub most: u16,
+    pub lowers: &'a [u16],
     pub nodes: usize,
     pub outs: Links<'a>,
     pub ins: Links<'a>,
     pub ghost by_tail: { Chain (tails_of arcs.now) (lowers_of arcs.now) (tops_of most arcs.now) nodes outs.last.now outs.before.now },
     pub ghost by_head: { Chain (heads_of arcs.now) (lowers_of arcs.now) (tops_of most arcs.now) nodes ins.last.now ins.before.now },
+    pub ghost least: { lowers.now ≡ lowers_of arcs.now },
     pub ghost on_to: { outs.far.now ≡ heads_of arcs.now },
     pub ghost back_to: { ins.far.now ≡ tails_of arcs.now },
 }
 
 impl Graph<'_> {
-    // Where a step on, or back, along arc a leads.
+    // Where a step on, or back, along arc a leads; `on` is that of `arcs`.
     pub fn far_end(self, on: bool, a: usize) -> usize
         requires { a < length self.arcs.now }
         ensures { result ≡ far_end on (tails_of self.entry.arcs.now) (heads_of self.entry.arcs.now) a }

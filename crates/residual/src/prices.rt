@@ -10,6 +10,8 @@ use crate::arcs::{UNREACHED, open_end};
 use crate::graph::{Links, ResidualGraph};
 use crate::search::Space;
 
+// `on` is that of `arcs`: a step on, or back.
+
 // How short of nothing the cost of a step on, or back, is between the potentials of the nodes near and far.
 fn short_by(on: bool, cost: u64, near: u64, far: u64) -> u64
     requires { Fits on cost near far }
@@ -49,6 +51,7 @@ fn lesser(m: Option<u64>, n: u64) -> Option<u64>
     }
 }
 
+// Six parameters, each of another kind: the graph and its marks are read, the walk begins at u by the links of `on`, and `most` is carried through.
 // The lesser of `most` and of what the arcs that steps on, or back, from u lead along are short of tight where they leave the reached nodes.
 fn gap_by(
     r: ResidualGraph,

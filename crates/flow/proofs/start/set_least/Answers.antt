@@ -30,8 +30,7 @@ overflow_add-units-in-loop-a c =
 pub loop-a-preserved : goal.loop-a-preserved
 loop-a-preserved c =
     let p = (goal.at.loop-a-preserved c).After-far_end-h in
-    let l = c.loop-a in
-    (
+    let l = c.loop-a in (
       filled_more (λ u. get_or (lowers_of c.args.arcs.now) u 0) l.x l.a _ (omega arith) l.invariant.0 (sym (lower_at c.args.arcs.now l.a)),
       rw (c.far_end-h.ensures, ← lower_at c.args.arcs.now l.a) (adding_more l.invariant.1 (next p false) (c.requires.heads_in l.a (omega arith))),
       rw (c.near_end-t.ensures, ← lower_at c.args.arcs.now l.a) (adding_more l.invariant.2 (next p true) (c.requires.tails_in l.a (omega arith))),
