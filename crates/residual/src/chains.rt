@@ -5,6 +5,7 @@ ghost use Rattle.residual.specs.Chains.{Linking, Linked, Lined};
 ghost use Rattle.residual.specs.Arcs.{tails_of, heads_of, ends_of};
 
 use crate::arcs::{Arc, leads_to, near_end};
+use crate::graph::Links;
 use crate::search::Space;
 
 // Lent space for the links at one end of each arc: by node its last arc, by arc the one before it and where it leads.
@@ -14,6 +15,21 @@ pub struct LinkSpace<'a> {
     pub last: &'a mut [u16],
     pub before: &'a mut [u16],
     pub far: &'a mut [u8],
+}
+
+impl LinkSpace<'_> {
+    // The links, to be read.
+    pub fn links(&self) -> Links<'_>
+        ensures last_is { result.last.now ≡ self.now.last.now }
+        ensures before_is { result.before.now ≡ self.now.before.now }
+        ensures far_is { result.far.now ≡ self.now.far.now }
+    {
+        Links {
+            last: self.last,
+            before: self.before,
+            far: self.far,
+        }
+    }
 }
 
 // `on` is that of `arcs`: a step on, or back.

@@ -1,5 +1,5 @@
 -- `set_least`: the invariant is that the arcs below a are set, and their least is added.
-use Rattle.std.proofs.Common.{◌≡◌, ℕ, ◌<◌, length, get_or}
+use Rattle.std.proofs.Common.{◌≡◌, ℕ, ◌<◌, get_or}
 use Rattle.residual.specs.Arcs.{tails_of, heads_of, lowers_of}
 use Rattle.flow.proofs.Fills.{Adding}
 use Rattle.flow.proofs.start.set_least.Given as goal
