@@ -19,6 +19,6 @@ pub mod Transfers
 pub mod Trims
 pub mod Uniques
 pub mod Capping
-pub mod Arrays
+pub mod Tops
 pub mod Checks
 pub mod Certificates

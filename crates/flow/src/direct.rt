@@ -6,7 +6,7 @@ ghost use Rattle.flow.specs.Network.{total};
 ghost use Rattle.flow.specs.Solver.{Carried, Ready, Eased, phase_most};
 
 use crate::nodes::Units;
-use residual::arcs::{far_end, is_tight, near_end};
+use residual::arcs::{far_end, is_tight, near_end, top};
 use residual::graph::Graph;
 
 // Sends over arc a what its tail has left, its head lacks and the arc has room for, if the arc is tight.
@@ -26,7 +26,7 @@ fn send_over(graph: Graph, x: &mut [u16], pot: &[u64], units: &mut Units<'_>, a:
     if !is_tight(arc.cost, pot[t], pot[h]) {
         return;
     }
-    let sent = some.min(arc.upper - x[a]);
+    let sent = some.min(top(arc, graph.most) - x[a]);
     x[a] += sent;
     units.left[t] -= sent;
     units.lack[h] -= sent;

@@ -10,6 +10,7 @@ pub struct Node {
 }
 
 // By node: the units that it has left, and those that it lacks.
+// Slices of arrays of fixed size, since nothing is allocated. That they have a place for each node is asked for where a graph is met: no value of this type knows it.
 #[derive(Drop)]
 pub struct Units<'a> {
     pub left: &'a mut [u16],
@@ -21,7 +22,7 @@ pub struct Units<'a> {
 pub struct Infeasible;
 
 // The sum of a few numbers.
-pub fn total_of(xs: &[u16]) -> u16
+fn total_of(xs: &[u16]) -> u16
     requires { total xs.now < 65536 }
     ensures { result ≡ total xs.now }
 {

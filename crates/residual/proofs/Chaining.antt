@@ -1,28 +1,30 @@
 -- Linking the arcs at each node one arc at a time, and lining up the reached nodes in a queue.
 use mathlib.Core.Path.{◌≡◌, refl, sym, ap, ◌∙◌, subst}
 use mathlib.Core.Logic.{⊎_elim}
+use mathlib.Core.Bool.{Bool}
 use mathlib.Core.List.{List, [], ◌∷◌}
 use Prim.Native.Nat.{ℕ, ◌+◌, ◌-◌, ◌≤◌, ◌<◌}
-use native.Mathlib.Decide.{ℕ_discrete, dec_lt}
+use native.Mathlib.Decide.{ℕ_discrete}
 use native.Mathlib.Omega.{arith}
 use borrow.Author.Tests.{le-leb, lt-leb}
 use borrow.Author.Count.{below_more}
 use lib.Dec.{leb}
-use lib.ListN.{length, get_or, set, length-set, get_or-eq_default}
+use lib.ListN.{length, get_or, set, length-set}
 use lib.Seq.{get_or-set_same, get_or-set_other}
 use Rattle.finite.proofs.Order.{Order, less, same, more, order}
 use Rattle.finite.proofs.Sums.{sum_below, sum_more}
 use Rattle.finite.specs.Base.{when}
 use Rattle.residual.specs.Residual.{Fresh, reached, unreached}
-use Rattle.residual.specs.Chains.{Movable, Last, Chain, Lined}
+use Rattle.residual.specs.declared.arcs.Arc.{Arc}
+use Rattle.residual.specs.Arcs.{lowers_of, uppers_of, ends_of, fars_of}
+use Rattle.residual.specs.Chains.{Movable, Last, Chain, Chaining, Linking, Linked, Lined}
+use Rattle.residual.proofs.ArcLists.{tops_less, ends_long, fars_long}
+use Rattle.residual.proofs.Fills.{filled_more}
+use Rattle.std.proofs.lemmas.List.{ext_get_or}
 use Rattle.residual.specs.Marks.{Zeros}
 use Rattle.residual.proofs.Passes.{unreached_set}
 
 -- ---- the arcs at each node
-
--- a list that is 0 below its length
-pub zeros_all : (xs : List ℕ) (n k : ℕ) → length xs ≡ n → length xs ≤ k → ((i : ℕ) → i < k → get_or xs i 0 ≡ 0) → Zeros n xs
-zeros_all xs n k l h z = record { long = l; zero_at = λ i. elim (dec_lt i (length xs)) [ yes g ↦ z i (omega arith) | no d ↦ get_or-eq_default xs 0 {n = i} (omega (arith, d)) ] }
 
 -- no arc is below 0
 last_none : (ends lowers uppers : List ℕ) (v : ℕ) → Last ends lowers uppers v 0 0
@@ -41,13 +43,6 @@ last_past ends lowers uppers v k at n l = record {
   here = l.here;
   later = λ b h. below_more (λ (b : ℕ). get_or ends b 0 ≡ v → Movable lowers uppers b → b < at) k l.later (λ e m. absurd (n e m)) b h;
 }
-
--- the lists once the arcs below k are linked
-pub record Chaining (ends lowers uppers : List ℕ) (nodes k : ℕ) (last before : List ℕ) : Type 0 where
-  pub last_long : length last ≡ nodes
-  pub before_long : length before ≡ length ends
-  pub last_at : (v : ℕ) → v < nodes → Last ends lowers uppers v k (get_or last v 0)
-  pub before_at : (a : ℕ) → a < k → Last ends lowers uppers (get_or ends a 0) a (get_or before a 0)
 
 pub chaining_start : (ends lowers uppers last before : List ℕ) (nodes : ℕ) → Zeros nodes last → length before ≡ length ends → Chaining ends lowers uppers (length last) 0 last before
 chaining_start ends lowers uppers last before nodes z l = record {
@@ -94,6 +89,53 @@ module _ {ends lowers uppers last before : List ℕ} {nodes k : ℕ} (c : Chaini
     before_long = c.before_long;
     last_at = λ v h. rw (← e) (c.last_at v (omega (arith, all)));
     before_at = λ a h. c.before_at a (omega (arith, e));
+  }
+
+-- where fewer arcs can move, they are linked too
+pub chain_fewer : {ends lowers uppers tops : List ℕ} {n : ℕ} {last before : List ℕ}
+    → ((a : ℕ) → Movable lowers tops a → Movable lowers uppers a) → Chain ends lowers uppers n last before → Chain ends lowers tops n last before
+chain_fewer {ends} {lowers} {uppers} {tops} fewer c = record {
+  last_long = c.last_long;
+  before_long = c.before_long;
+  last_at = λ v h. last_fewer (c.last_at v h);
+  before_at = λ a h. last_fewer (c.before_at a h);
+}
+  where
+    last_fewer : {v k at : ℕ} → Last ends lowers uppers v k at → Last ends lowers tops v k at
+    last_fewer l = record { below = l.below; here = l.here; later = λ b h e m. l.later b h e (fewer b m) }
+
+-- ---- the links of arcs as the code holds them
+
+pub linking_start : {on : Bool} {arcs : List Arc} {last before far : List ℕ} → Zeros (length last) last → length before ≡ length arcs → length far ≡ length arcs → Linking on arcs (length last) 0 last before far
+linking_start {on} {arcs} {last} {before} z b f = record {
+  chaining = chaining_start _ _ _ last before (length last) z (b ∙ sym (ends_long on arcs));
+  far_long = f;
+  far_at = λ a h. absurd (omega arith);
+}
+
+module _ {on : Bool} {arcs : List Arc} {nodes k : ℕ} {last before far : List ℕ} (l : Linking on arcs nodes k last before far) where
+  module _ {v w : ℕ} (near : v ≡ get_or (ends_of on arcs) k 0) (to : w ≡ get_or (fars_of on arcs) k 0) (node : v < nodes) (arc : k < length arcs) where
+    here : k < length (ends_of on arcs)
+    here = omega (arith, arc, ends_long on arcs)
+
+    linking_by : {last' : List ℕ} → Chaining (ends_of on arcs) (lowers_of arcs) (uppers_of arcs) nodes (k + 1) last' (set before k (get_or last v 0)) → Linking on arcs nodes (k + 1) last' (set before k (get_or last v 0)) (set far k w)
+    linking_by c = record {
+      chaining = c;
+      far_long = length-set far k w ∙ l.far_long;
+      far_at = filled_more (λ a. get_or (fars_of on arcs) a 0) far k w (omega (arith, arc, l.far_long)) l.far_at to;
+    }
+
+    pub linking_more : Linking on arcs nodes (k + 1) (set last v (k + 1)) (set before k (get_or last v 0)) (set far k w)
+    linking_more = linking_by (chaining_more l.chaining v near node here)
+
+    -- arc k can not move
+    pub linking_fixed : (Movable (lowers_of arcs) (uppers_of arcs) k → ⊥) → Linking on arcs nodes (k + 1) last (set before k (get_or last v 0)) (set far k w)
+    linking_fixed n = linking_by (chaining_fixed l.chaining v near node here n)
+
+  pub linking_done : k ≡ length arcs → {n : ℕ} → nodes ≡ n → Linked on arcs n last before far
+  linking_done e {n} all = record {
+    chain = λ most. chain_fewer (λ a m. omega (arith, m, tops_less most arcs a)) (chaining_done l.chaining (omega (arith, e, ends_long on arcs)) n all);
+    far_is = ext_get_or 0 far (fars_of on arcs) (omega (arith, l.far_long, fars_long on arcs)) (λ i h. l.far_at i (omega (arith, h, e, l.far_long)));
   }
 
 -- ---- the arcs at one node, from the last down

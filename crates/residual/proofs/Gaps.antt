@@ -37,6 +37,10 @@ module _ {r : Residual} {dist : List ℕ} where
       after : {s : ℕ} → (0 < g₁) × (g₁ ≤ s) → (0 < g₂) × (g₂ ≤ s)
       after old = let new = d.kept old.0 in (new.0, omega (arith, old.1, new.1))
 
+-- a number and none
+pub lesser_none : {m : ℕ} → Lesser m 0 m
+lesser_none = record { one = inl refl; first = λ pos. (pos, omega arith); second = λ pos. absurd (omega arith) }
+
 -- ---- over the arcs at u, from the last down
 
 -- those from `at` on are short by g at least

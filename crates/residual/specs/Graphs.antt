@@ -8,7 +8,7 @@ use Rattle.residual.specs.Arcs.{residual_from}
 
 -- the arcs of a graph, with units on them and potentials of the nodes
 abbrev pub residual_on : Graph → List ℕ → List ℕ → Residual
-residual_on g x pot = residual_from g.arcs.now x pot
+residual_on g x pot = residual_from g.most g.arcs.now x pot
 
 -- the lists of residual arcs
 abbrev pub lists_of : ResidualGraph → Residual

@@ -1,6 +1,6 @@
 //! Arcs, tests on one arc, and where a step along it leads.
 ghost use Rattle.std.specs.Prelude.{◌≡◌, ◌+◌, ◌<◌, length, get_or};
-ghost use Rattle.residual.specs.Arcs.{tails_of, heads_of, ends_of};
+ghost use Rattle.residual.specs.Arcs.{tails_of, heads_of, ends_of, fars_of, top_of};
 ghost use Rattle.residual.specs.Residual.{Tells, Even, Roomy, far_end, Open};
 ghost use Rattle.residual.specs.Graphs.{lists_of};
 
@@ -35,6 +35,9 @@ pub fn is_tight(cost: u64, low: u64, high: u64) -> bool
     low <= high && high - low == cost
 }
 
+// `on` says which way a step goes, here and wherever a function takes it: on, from an arc's tail to its head, or back.
+// A flag, since the definitions have it: one function, and one proof, serves both ways.
+
 // Whether an arc of this cost is tight, for a step on, or back, between the potentials of the nodes near and far.
 pub fn is_even(on: bool, cost: u64, near: u64, far: u64) -> bool
     ensures { Tells result (Even on cost near far) }
@@ -44,6 +47,13 @@ pub fn is_even(on: bool, cost: u64, near: u64, far: u64) -> bool
     } else {
         is_tight(cost, far, near)
     }
+}
+
+// The most units on an arc that is held to `most` above its least.
+pub fn top(arc: Arc, most: u16) -> u16
+    ensures { result ≡ top_of most arc }
+{
+    arc.upper.min(arc.lower.saturating_add(most))
 }
 
 // Whether there is room between an arc's bounds for a step on, or back.
@@ -61,6 +71,14 @@ pub fn near_end(arcs: &[Arc], on: bool, a: usize) -> usize
     usize::from(if on { arcs[a].tail } else { arcs[a].head })
 }
 
+// Where a step on, or back, along arc a leads, as the arc has it.
+pub fn leads_to(arcs: &[Arc], on: bool, a: usize) -> u8
+    requires { a < length arcs.now }
+    ensures { result ≡ get_or (fars_of on arcs.now) a 0 }
+{
+    if on { arcs[a].head } else { arcs[a].tail }
+}
+
 // Where a step on, or back, along arc a leads: where one the other way begins.
 pub fn far_end(arcs: &[Arc], on: bool, a: usize) -> usize
     requires { a < length arcs.now }
@@ -75,12 +93,12 @@ pub fn open_end(r: ResidualGraph, dist: &[u8], on: bool, a: usize) -> Option<usi
     requires a_in_bounds { a < length r.graph.arcs.now }
     ensures { Open (lists_of r.entry) dist.now on a result }
 {
-    let v = far_end(r.graph.arcs, on, a);
+    let v = r.graph.far_end(on, a);
     if dist[v] < UNREACHED {
         return None;
     }
     let arc = r.graph.arcs[a];
-    if !has_room(on, r.x[a], arc.lower, arc.upper) {
+    if !has_room(on, r.x[a], r.graph.lowers[a], top(arc, r.graph.most)) {
         return None;
     }
     Some(v)

@@ -1,26 +1,75 @@
 //! The arcs at each node that can move, linked from the last one back; the queue of a search.
-ghost use Rattle.std.specs.Prelude.{◌≡◌, ℕ, ◌<◌, ◌≤◌, length, get_or};
+ghost use Rattle.std.specs.Prelude.{◌≡◌, true, false, ℕ, ◌+◌, ◌<◌, ◌≤◌, length, get_or};
 ghost use Rattle.residual.specs.Residual.{Fresh};
-ghost use Rattle.residual.specs.Chains.{Chain, Lined};
-ghost use Rattle.residual.specs.Arcs.{ends_of, lowers_of, uppers_of};
+ghost use Rattle.residual.specs.Chains.{Linking, Linked, Lined};
+ghost use Rattle.residual.specs.Arcs.{tails_of, heads_of, ends_of};
 
-use crate::arcs::{Arc, near_end};
+use crate::arcs::{Arc, leads_to, near_end};
+use crate::graph::Links;
 use crate::search::Space;
 
-// For each node its last arc that can move, one more than its number or 0, and for each arc the one before it at the same node; at the ends where a step on, or back, begins.
-pub fn chain(arcs: &[Arc], on: bool, last: &mut [u16], before: &mut [u16])
-    requires before_len { length before.old ≡ length arcs.now }
-    requires arcs_len_bound { length arcs.now ≤ 1024 }
-    requires by_index { (a : ℕ) → a < length arcs.now → get_or (ends_of on arcs.now) a 0 < length last.old }
-    ensures { Chain (ends_of on arcs.now) (lowers_of arcs.now) (uppers_of arcs.now) (length last.old) last.new before.new }
-{
-    last.fill(0);
-    for (a, arc) in arcs.iter().enumerate() {
-        let v = near_end(arcs, on, a);
-        before[a] = last[v];
-        if arc.lower < arc.upper {
-            last[v] = (a + 1) as u16;
+// Lent space for the links at one end of each arc: by node its last arc, by arc the one before it and where it leads.
+// Slices of arrays of fixed size, since nothing is allocated; how long they are is known where they are lent, and no value of this type knows the arcs.
+#[derive(Drop)]
+pub struct LinkSpace<'a> {
+    pub last: &'a mut [u16],
+    pub before: &'a mut [u16],
+    pub far: &'a mut [u8],
+}
+
+impl LinkSpace<'_> {
+    // The links, to be read.
+    pub fn links(&self) -> Links<'_>
+        ensures last_is { result.last.now ≡ self.now.last.now }
+        ensures before_is { result.before.now ≡ self.now.before.now }
+        ensures far_is { result.far.now ≡ self.now.far.now }
+    {
+        Links {
+            last: self.last,
+            before: self.before,
+            far: self.far,
         }
+    }
+}
+
+// `on` is that of `arcs`: a step on, or back.
+
+// Links arc a, if it can move, where a step on, or back, along it begins, and notes where that leads.
+fn link_arc(arcs: &[Arc], on: bool, links: &mut LinkSpace<'_>, a: usize)
+    requires a_in_bounds { a < length arcs.now }
+    requires arcs_len_bound { length arcs.now ≤ 1024 }
+    requires node { get_or (ends_of on arcs.now) a 0 < length links.old.last.now }
+    requires linking { Linking on arcs.now (length links.old.last.now) a links.old.last.now links.old.before.now links.old.far.now }
+    ensures linking { Linking on arcs.now (length links.old.last.now) (a + 1) links.new.last.now links.new.before.now links.new.far.now }
+{
+    let arc = arcs[a];
+    let v = near_end(arcs, on, a);
+    let to = leads_to(arcs, on, a);
+    links.before[a] = links.last[v];
+    links.far[a] = to;
+    if arc.lower < arc.upper {
+        // With `as`: there are 1024 arcs at most, and try_from would test it again.
+        links.last[v] = (a + 1) as u16;
+    }
+}
+
+// Links the arcs that can move, however far they are held, at both ends.
+pub fn chain(arcs: &[Arc], outs: &mut LinkSpace<'_>, ins: &mut LinkSpace<'_>)
+    requires arcs_len_bound { length arcs.now ≤ 1024 }
+    requires outs_before_len { length outs.old.before.now ≡ length arcs.now }
+    requires outs_far_len { length outs.old.far.now ≡ length arcs.now }
+    requires ins_before_len { length ins.old.before.now ≡ length arcs.now }
+    requires ins_far_len { length ins.old.far.now ≡ length arcs.now }
+    requires tails_in { (a : ℕ) → a < length arcs.now → get_or (tails_of arcs.now) a 0 < length outs.old.last.now }
+    requires heads_in { (a : ℕ) → a < length arcs.now → get_or (heads_of arcs.now) a 0 < length ins.old.last.now }
+    ensures outs_linked { Linked true arcs.now (length outs.old.last.now) outs.new.last.now outs.new.before.now outs.new.far.now }
+    ensures ins_linked { Linked false arcs.now (length ins.old.last.now) ins.new.last.now ins.new.before.now ins.new.far.now }
+{
+    outs.last.fill(0);
+    ins.last.fill(0);
+    for a in 0..arcs.len() {
+        link_arc(arcs, true, outs, a);
+        link_arc(arcs, false, ins, a);
     }
 }
 
@@ -37,6 +86,7 @@ pub fn enqueue_sources(space: &mut Space<'_>) -> usize
     let mut count = 0;
     for v in 0..space.dist.len() {
         if space.dist[v] == 0 {
+            // With `as`: there are 255 nodes at most, and try_from would test it again.
             space.queue[count] = v as u8;
             count += 1;
         }

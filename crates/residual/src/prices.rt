@@ -10,6 +10,8 @@ use crate::arcs::{UNREACHED, open_end};
 use crate::graph::{Links, ResidualGraph};
 use crate::search::Space;
 
+// `on` is that of `arcs`: a step on, or back.
+
 // How short of nothing the cost of a step on, or back, is between the potentials of the nodes near and far.
 fn short_by(on: bool, cost: u64, near: u64, far: u64) -> u64
     requires { Fits on cost near far }
@@ -36,20 +38,20 @@ fn slack_at(r: ResidualGraph, dist: &[u8], on: bool, u: usize, a: usize) -> Opti
     if short > 0 { Some(short) } else { None }
 }
 
-// The lesser of two numbers, if there is any.
-fn lesser(m: Option<u64>, n: Option<u64>) -> Option<u64>
+// The lesser of two numbers, of which the first may be missing.
+fn lesser(m: Option<u64>, n: u64) -> Option<u64>
     requires m_positive { Positive m }
-    requires n_positive { Positive n }
-    ensures lesser { Lesser (unwrap_or m 0) (unwrap_or n 0) (unwrap_or result 0) }
+    requires n_positive { 0 < n }
+    ensures lesser { Lesser (unwrap_or m 0) n (unwrap_or result 0) }
     ensures positive { Positive result }
 {
-    match (m, n) {
-        (Some(a), Some(b)) => Some(a.min(b)),
-        (None, _) => n,
-        (_, None) => m,
+    match m {
+        Some(a) => Some(a.min(n)),
+        None => Some(n),
     }
 }
 
+// Six parameters, each of another kind: the graph and its marks are read, the walk begins at u by the links of `on`, and `most` is carried through.
 // The lesser of `most` and of what the arcs that steps on, or back, from u lead along are short of tight where they leave the reached nodes.
 fn gap_by(
     r: ResidualGraph,
@@ -72,7 +74,9 @@ fn gap_by(
     // A while: each arc names the next one.
     while at > 0 {
         let a = at - 1;
-        best = lesser(best, slack_at(r, dist, on, u, a));
+        if let Some(short) = slack_at(r, dist, on, u, a) {
+            best = lesser(best, short);
+        }
         at = usize::from(links.before[a]);
     }
     best

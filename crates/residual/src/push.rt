@@ -46,6 +46,7 @@ pub fn push(arcs: &[Arc], x: &mut [u16], space: &Space<'_>, target: usize) -> us
 }
 
 // Searches from the source, which stands in the queue, for the target and moves a unit to it; the source, if the target is reached.
+// Seven parameters: the units change here, so no `ResidualGraph` can hold them, and `space` and `wanted` are lent by the caller.
 pub fn augment(
     graph: Graph,
     x: &mut [u16],

@@ -9,12 +9,15 @@ use crate::arcs::{is_even, open_end};
 use crate::graph::{Links, ResidualGraph};
 
 // Space to search in, by node: its mark, the arc that leads to it, and a queue.
+// Slices of arrays of fixed size, since nothing is allocated. That they have a place for each node of a graph is asked for where both are met: no value of this type knows the graph.
 #[derive(Drop)]
 pub struct Space<'a> {
     pub dist: &'a mut [u8],
     pub via: &'a mut [u16],
     pub queue: &'a mut [u8],
 }
+
+// `on` is that of `arcs`: a step on, or back.
 
 // The node that a step on, or back, from u along arc a reaches anew.
 fn reached_by(r: ResidualGraph, space: &Space<'_>, on: bool, u: usize, a: usize) -> Option<usize>
@@ -39,6 +42,7 @@ fn node_at(space: &Space<'_>, i: usize) -> usize
     usize::from(space.queue[i])
 }
 
+// Eight parameters: what is read, what is written, the way of the steps with its links, and the place that the walk has come to.
 // Marks each new node that a step on, or back, from u along an arc from `from` on leads to, notes the arc and puts the node into the queue, until one is wanted; how many nodes then stand there.
 fn fan(
     r: ResidualGraph,
@@ -64,6 +68,7 @@ fn fan(
     while at > from {
         let a = at - 1;
         if let Some(v) = reached_by(r, space, on, u, a) {
+            // With `as`: there are 255 nodes and 1024 arcs at most, and try_from would test it again.
             space.dist[v] = next as u8;
             space.via[v] = a as u16;
             space.queue[next] = v as u8;
@@ -77,6 +82,7 @@ fn fan(
     next
 }
 
+// Six parameters: those of `fan`, but for the way of the steps.
 // Marks each new node that an arc from `from` on leads to from u, until one is wanted; how many nodes then stand in the queue.
 fn visit(
     r: ResidualGraph,

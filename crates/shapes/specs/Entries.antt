@@ -6,6 +6,7 @@ use Rattle.residual.specs.declared.arcs.Arc.{Arc}
 use Rattle.flow.specs.declared.nodes.Node.{Node}
 use Rattle.shapes.specs.Rates.{Rates}
 use Rattle.shapes.specs.NetworkOf.{bend_most, bend_cost}
+pub use Rattle.residual.specs.Arcs.{no_arc}
 
 -- the node of the face of dart d
 abbrev pub node_at : ℕ → List ℕ → ℕ → ℕ
@@ -45,10 +46,7 @@ corner_arc q first d = record { tail = post_at q.ends d; head = node_at q.posts 
 abbrev pub node : Held → ℕ → Node
 node q v = record { supply = supply_at (outer_node q) v; demand = demand_at q.posts q.sizes (outer_node q) v }
 
--- what stands for an arc or a node that is not there
-abbrev pub no_arc : Arc
-no_arc = record { tail = 0; head = 0; lower = 0; upper = 0; cost = 0 }
-
+-- what stands for a node that is not there
 abbrev pub no_node : Node
 no_node = record { supply = 0; demand = 0 }
 

@@ -1,9 +1,9 @@
 -- `send_over`: the units that it sends are no more than the tail has left, the head lacks and the arc has room for.
 use Rattle.std.proofs.Common.{◌+◌, ◌≤◌, ◌<◌, true, length, get_or, arith}
 use Rattle.residual.specs.Residual.{tight}
-use Rattle.residual.specs.Arcs.{tails_of, uppers_of}
+use Rattle.residual.specs.Arcs.{tails_of, tops_of}
 use Rattle.residual.specs.Graphs.{residual_on}
-use Rattle.residual.proofs.ArcLists.{cost_at, upper_at, ends_long}
+use Rattle.residual.proofs.ArcLists.{cost_at, top_at, ends_long}
 use Rattle.flow.proofs.Transfers.{carried_over, eased_over}
 use Rattle.flow.proofs.direct.send_over.Goals as goal
 use Rattle.flow.proofs.direct.send_over.Goals.{After-min-sent}
@@ -15,8 +15,8 @@ module _ (c : After-min-sent) where
   even : tight (residual_on c.args.graph c.args.x.now c.args.pot.now) c.args.a
   even = rw (c.near_end-t.ensures, c.far_end-h.ensures, ← cost_at c.args.graph.arcs.now c.args.a) at c.if-not-is_tight.ensures
 
-  room : get_or c.args.x.now c.args.a 0 + c.min-sent.result ≤ get_or (uppers_of c.args.graph.arcs.now) c.args.a 0
-  room = omega (arith, upper_at c.args.graph.arcs.now c.args.a, c.requires.ready.shaped.within.below c.args.a arc)
+  room : get_or c.args.x.now c.args.a 0 + c.min-sent.result ≤ get_or (tops_of c.args.graph.most c.args.graph.arcs.now) c.args.a 0
+  room = omega (arith, top_at c.args.graph.most c.args.graph.arcs.now c.args.a (omega arith), c.requires.ready.shaped.within.below c.args.a arc)
 
 pub returns-clause-carried : goal.returns-clause-carried
 returns-clause-carried c =

@@ -1,19 +1,10 @@
--- `chain`: the invariant is that the arcs below a that can move are linked.
-use Rattle.std.proofs.Common.{◌<◌, length, arith}
-use Rattle.residual.specs.Arcs.{ends_of}
-use Rattle.residual.proofs.ArcLists.{lower_at, upper_at, ends_long}
-use Rattle.residual.proofs.Chaining.{chaining_more, chaining_fixed}
+-- `chain`: the invariant is that the arcs below a are linked at both ends.
+use Rattle.std.proofs.Common.{arith}
+use Rattle.residual.proofs.Chaining.{linking_done}
 use Rattle.residual.proofs.chains.chain.Goals as goal
-use Rattle.residual.proofs.chains.chain.Goals.{then-arc, else-arc}
 
-pub loop-a-preserved : goal.loop-a-preserved
-loop-a-preserved c =
-    let l = c.loop-a in
-    let arcs = c.args.arcs.now in
-    let v = c.near_end-v in
-    let node : v.result < length c.fill.new.self = omega (arith, c.requires.by_index l.a (omega arith)) in
-    let arc : l.a < length (ends_of c.args.on arcs) = omega (arith, ends_long c.args.on arcs) in
-    elim c.if-arc.branch [
-      | then-arc w ↦ rw w.last-is (chaining_more l.invariant v.result v.ensures node arc)
-      | else-arc w ↦ rw w.last-is (chaining_fixed l.invariant v.result v.ensures node arc (λ m. omega (arith, w.if-arc, lower_at arcs l.a, upper_at arcs l.a)))
-    ]
+pub returns-clause-outs_linked : goal.returns-clause-outs_linked
+returns-clause-outs_linked c = linking_done c.loop-a.invariant.0 (omega arith) (omega (arith, c.fill.ensures.len))
+
+pub returns-clause-ins_linked : goal.returns-clause-ins_linked
+returns-clause-ins_linked c = linking_done c.loop-a.invariant.1 (omega arith) (omega (arith, c.fill-2.ensures.len))

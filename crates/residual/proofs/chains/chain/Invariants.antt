@@ -1,8 +1,9 @@
--- `chain`: the invariant is that the arcs below a that can move are linked.
-use Rattle.std.proofs.Common.{length}
-use Rattle.residual.specs.Arcs.{ends_of, lowers_of, uppers_of}
-use Rattle.residual.proofs.Chaining.{Chaining}
+-- `chain`: the invariant is that the arcs below a are linked at both ends.
+use Rattle.std.proofs.Common.{true, false, length}
+use Rattle.residual.specs.Chains.{Linking}
 use Rattle.residual.proofs.chains.chain.Given as goal
 
 abbrev pub invariant-loop-a : goal.invariant-loop-a
-invariant-loop-a l = Chaining (ends_of l.on l.arcs) (lowers_of l.arcs) (uppers_of l.arcs) (length l.initial.last) l.a l.last l.before
+invariant-loop-a l =
+    Linking true l.arcs (length l.initial.outs.last.now) l.a l.outs.last.now l.outs.before.now l.outs.far.now
+    × Linking false l.arcs (length l.initial.ins.last.now) l.a l.ins.last.now l.ins.before.now l.ins.far.now
