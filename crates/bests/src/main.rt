@@ -1,4 +1,5 @@
-//! The best shapes of document 01's plates, best shapes within limits and by prices, and verdicts on other shapes of P1. The shapes expected are document 01's, P6 straight; those with limits and prices were found by trying all; the verdicts were worked out by hand.
+//! The best shapes of document 01's plates, best shapes within limits and by prices, and verdicts on other shapes of P1.
+//! The shapes expected are document 01's, P6 straight; those with limits and prices were found by trying all; the verdicts were worked out by hand.
 #![tactic(auto)]
 
 ghost use Rattle.std.specs.Prelude.{◌≡◌, ◌%◌, ◌≤◌, length};
@@ -33,9 +34,9 @@ fn show_shape(rt: &impl Print, darts: usize, s: BestShape) -> io::Result<()>
     rt.write_all(b"\n")
 }
 
-// A plate as its list gives it.
+// A plate as its list gives it. Like the lists that `embedding` reads from, which are private there.
 #[derive(Clone, Copy)]
-struct PlateList<'a> {
+struct GivenPlate<'a> {
     posts: u8,
     ends: &'a [u8],
     order: &'a [u8],
@@ -45,7 +46,7 @@ struct PlateList<'a> {
     ghost few_darts: { length order.now ≤ 256 },
 }
 
-impl PlateList<'_> {
+impl GivenPlate<'_> {
     fn read(&self) -> Result<Plate, Refusal>
         ensures { Reads (plate self.now.posts self.now.ends.now self.now.order.now self.now.outer) result }
     {
@@ -53,14 +54,14 @@ impl PlateList<'_> {
     }
 }
 
-const P1: PlateList<'static> = PlateList {
+const P1: GivenPlate<'static> = GivenPlate {
     posts: 2,
     ends: b"\x00\x01\x00\x01",
     order: b"\x00\x02\x01\x03",
     outer: 1,
 };
 
-const P7: PlateList<'static> = PlateList {
+const P7: GivenPlate<'static> = GivenPlate {
     posts: 2,
     ends: b"\x00\x01\x00\x01\x00\x01",
     order: b"\x00\x02\x04\x05\x03\x01",
@@ -68,7 +69,7 @@ const P7: PlateList<'static> = PlateList {
 };
 
 // Writes a line: the label and the best shape.
-fn show(rt: &impl Print, label: &[u8], list: PlateList) -> io::Result<()> {
+fn show(rt: &impl Print, label: &[u8], list: GivenPlate) -> io::Result<()> {
     rt.write_all(label)?;
     match list.read() {
         Ok(q) => show_shape(rt, list.ends.len(), best(q)),
@@ -80,7 +81,7 @@ fn show(rt: &impl Print, label: &[u8], list: PlateList) -> io::Result<()> {
 fn show_by(
     rt: &impl Print,
     label: &[u8],
-    list: PlateList,
+    list: GivenPlate,
     limits: &[u8],
     prices: &[u8],
 ) -> io::Result<()> {
@@ -141,7 +142,7 @@ fn shapes_to_try(rt: &impl Print) -> io::Result<()> {
     show(
         rt,
         b"P2",
-        PlateList {
+        GivenPlate {
             posts: 3,
             ends: b"\x00\x01\x01\x02\x02\x00",
             order: b"\x00\x05\x01\x02\x03\x04",
@@ -151,7 +152,7 @@ fn shapes_to_try(rt: &impl Print) -> io::Result<()> {
     show(
         rt,
         b"P3",
-        PlateList {
+        GivenPlate {
             posts: 4,
             ends: b"\x00\x01\x01\x02\x02\x03\x03\x00",
             order: b"\x00\x07\x01\x02\x03\x04\x05\x06",
@@ -161,7 +162,7 @@ fn shapes_to_try(rt: &impl Print) -> io::Result<()> {
     show(
         rt,
         b"P4",
-        PlateList {
+        GivenPlate {
             posts: 2,
             ends: b"\x00\x01",
             order: b"\x00\x01",
@@ -175,7 +176,7 @@ fn strips_to_itself(rt: &impl Print) -> io::Result<()> {
     show(
         rt,
         b"to itself",
-        PlateList {
+        GivenPlate {
             posts: 1,
             ends: b"\x00\x00",
             order: b"\x00\x01",
@@ -185,7 +186,7 @@ fn strips_to_itself(rt: &impl Print) -> io::Result<()> {
     show(
         rt,
         b"to itself twice",
-        PlateList {
+        GivenPlate {
             posts: 1,
             ends: b"\x00\x00\x00\x00",
             order: b"\x00\x02\x03\x01",
@@ -198,7 +199,7 @@ fn more_shapes_to_try(rt: &impl Print) -> io::Result<()> {
     show(
         rt,
         b"P5",
-        PlateList {
+        GivenPlate {
             posts: 5,
             ends: b"\x00\x01\x00\x02\x00\x03\x00\x04",
             order: b"\x00\x02\x04\x06\x01\x03\x05\x07",
@@ -208,7 +209,7 @@ fn more_shapes_to_try(rt: &impl Print) -> io::Result<()> {
     show(
         rt,
         b"P6",
-        PlateList {
+        GivenPlate {
             posts: 3,
             ends: b"\x00\x01\x01\x02",
             order: b"\x00\x01\x02\x03",
@@ -219,7 +220,7 @@ fn more_shapes_to_try(rt: &impl Print) -> io::Result<()> {
     show(
         rt,
         b"P8",
-        PlateList {
+        GivenPlate {
             posts: 2,
             ends: b"\x00\x01\x00\x01\x00\x01",
             order: b"\x00\x02\x04\x01\x03\x05",

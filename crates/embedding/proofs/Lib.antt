@@ -7,8 +7,8 @@ pub mod Faultless
 pub mod Totals
 pub mod Degrees
 pub mod OnePass
+pub mod Pairs
 pub mod Example
-pub mod Fronts
 pub mod Counting
 pub mod Reaching
 pub mod Labelling

@@ -1,4 +1,5 @@
--- The strips gone over once: stopped after any strip, the pass goes on to the state of the whole field; the state holds what the definitions say of the field, so that its answer is theirs.
+-- The strips gone over once: stopped after any strip, the pass goes on to the state of the whole field.
+-- The state holds what the definitions say of the field, so that its answer is theirs.
 use mathlib.Core.Path.{◌≡◌, refl, sym, ap, ap₂, subst, ◌∙◌}
 use mathlib.Core.Bool.{Bool, true, false, ◌&&◌, ◌||◌, not, true≢false, false≢true}
 use mathlib.Core.List.{List, [], ◌∷◌, ◌++◌}
@@ -8,7 +9,7 @@ use native.Mathlib.Decide.{dec_le}
 use native.Mathlib.Omega.{arith}
 use borrow.Author.Tests.{eq-eqb, ne_eqb, ltb-true, ltb-false, not-false}
 use lib.Dec.{eqb, ltb}
-use lib.ListN.{length, get_or, set, take, drop, replicate, length-take, length-drop, length-replicate, get_or-replicate, take-append-drop, drop_of_length-le}
+use lib.ListN.{length, get_or, set, take, drop, replicate, length-take, length-replicate, get_or-replicate, take-append-drop, drop_of_length-le}
 use lib.Seq.{take_all}
 use Rattle.finite.specs.Tables.{Table, up_to}
 use Rattle.finite.proofs.Tables.{table_cong, table_set, up_below, up_cong}
@@ -17,7 +18,6 @@ use Rattle.embedding.specs.Plates.{pick, first_of, when, Plate, darts, degree_fr
 use Rattle.embedding.specs.Pass.{no_strips, add_strip, go_on, state_of, stopped_after, nine_first, answer_of, strips_fault, early_fault, late_fault, pass_fault, GoneOn, Answered}
 use Rattle.embedding.specs.Steps.{Few}
 use Rattle.embedding.specs.declared.strips.Strips.{Strips}
-use Rattle.embedding.proofs.Fronts.{two_front}
 use Rattle.embedding.proofs.Degrees.{over_most, most_over}
 
 -- stopped after a front of whole strips, the pass goes on over the rest alone
@@ -38,20 +38,6 @@ stopped-after k n es = go (dec_le (2 * k) (length es))
         goes_on n (take (2 * k) es) (drop (2 * k) es) (let q : length (take (2 * k) es) ≡ 2 * k = omega (arith, length-take (2 * k) es) in omega arith)
         ∙ ap (state_of n) (take-append-drop (2 * k) es)
     go (no m) = let all : length es ≤ 2 * k = omega arith in ap₂ (λ (a b : List ℕ). go_on n (state_of n a) b) (take_all (2 * k) es all) (drop_of_length-le es all)
-
--- both ends of a strip
--- a loop over the strips
-go_short : (n : ℕ) (s : Strips) (es : List ℕ) → length es ≤ 1 → go_on n s es ≡ s
-go_short n s [] l = refl
-go_short n s (a ∷ []) l = refl
-go_short n s (a ∷ (b ∷ es)) l = absurd (omega arith)
-
-module _ (n : ℕ) (s : Strips) (es : List ℕ) (i : ℕ) (t : Strips) (so_far : go_on n s (drop i es) ≡ t) where
-  pub go_more : i + 1 < length es → go_on n (add_strip n (get_or es i 0) (get_or es (i + 1) 0) s) (drop (i + 2) es) ≡ t
-  go_more l = ap (go_on n s) (sym (two_front es i l)) ∙ so_far
-
-  pub go_done : length es ≤ i + 1 → s ≡ t
-  go_done l = sym (go_short n s (drop i es) (omega (arith, length-drop i es))) ∙ so_far
 
 pub gone_on : (n : ℕ) (s : Strips) (rest : List ℕ) (r : Strips) → r ≡ go_on n s rest → GoneOn n s rest r
 gone_on n s rest r e = record { steps = e; whole = λ front even q. e ∙ ap (λ (t : Strips). go_on n t rest) q ∙ goes_on n front rest even }

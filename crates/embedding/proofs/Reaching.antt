@@ -7,16 +7,14 @@ use Prim.Native.Nat.{ℕ, zero, suc, ◌+◌, ◌-◌, ◌≤◌, ◌<◌}
 use native.Mathlib.Omega.{arith}
 use borrow.Author.Tests.{eq-eqb, ne_eqb, lt-ltb}
 use lib.Dec.{ltb}
-use lib.ListN.{length, get_or, drop, set, length-set, replicate, length-replicate, get_or-replicate}
+use lib.ListN.{length, get_or, set, length-set, replicate, length-replicate, get_or-replicate}
 use lib.Seq.{get_or-set_same, get_or-set_other}
 use Rattle.finite.proofs.Pigeonhole.{at_most}
-use Rattle.finite.proofs.Members.{all_in, get_d_in}
-use Rattle.finite.proofs.Tests.{equal_or_not, and_both, and_right}
+use Rattle.finite.proofs.Tests.{equal_or_not, and_both}
 use Rattle.embedding.specs.Plates.{pick, is_in, Plate, plate, all_below, joins, reach}
-use Rattle.embedding.specs.Steps.{Marks, join_one, Joined, RoundMade}
+use Rattle.embedding.specs.Steps.{Marks, join_one, RoundMade}
 use Rattle.embedding.specs.declared.reached.Seen.{Seen}
 use Rattle.embedding.proofs.Reach.{linked, Good, joins_good}
-use Rattle.embedding.proofs.Fronts.{two_front}
 
 -- one more post
 pub marks_more : (l : List ℕ) (s : Seen) (v : ℕ) → v < 64 → Marks l s → Marks (v ∷ l) (record { seen = set s.seen v true; count = s.count + 1 })
@@ -29,29 +27,6 @@ marks_more l s v b m =
           (equal_or_not u v);
       count = omega (arith, m.count);
     }
-
--- in a round that began with the posts l: the posts when these strips are left
-pub record Rounding (e l left : List ℕ) (r : Seen) : Type 0 where
-  pub posts : List ℕ
-  pub marks : Marks posts r
-  pub rest : joins left posts ≡ joins e l
-
-pub rounding_more : {e l left : List ℕ} {a b : ℕ} {s r : Seen} → Rounding e l left s → 1 < length left → a ≡ get_or left 0 0 → b ≡ get_or left 1 0 → Joined a b s r → Rounding e l (drop 2 left) r
-rounding_more {e} {l} {left} {a} {b} h k p q j =
-    record {
-      posts = join_one a b h.posts;
-      marks = j.marks h.posts h.marks;
-      rest = ap (λ (c : ℕ). joins (drop 2 left) (join_one c b h.posts)) p ∙ ap (λ (c : ℕ). joins (drop 2 left) (join_one (get_or left 0 0) c h.posts)) q
-          ∙ ap (λ (es : List ℕ). joins es h.posts) (sym (two_front left 0 k)) ∙ h.rest;
-    }
-
--- the ends of the first strip, and of those behind it
-pub below_front : (n : ℕ) (left : List ℕ) → 1 < length left → all_below n left ≡ true → (get_or left 0 0 < n) × (get_or left 1 0 < n) × (all_below n (drop 2 left) ≡ true)
-below_front n left k h = (
-  all_in n (get_or left 0 0) left h (get_d_in left 0 (omega arith)),
-  all_in n (get_or left 1 0) left h (get_d_in left 1 k),
-  and_right (ltb (get_or left 1 0) n) (all_below n (drop 2 left)) (and_right (ltb (get_or left 0 0) n) (ltb (get_or left 1 0) n && all_below n (drop 2 left)) (ap (all_below n) (sym (two_front left 0 k)) ∙ h)),
-)
 
 -- a round that adds no post changes nothing, and neither do the rounds after it
 pub one_grows : (a b : ℕ) (l : List ℕ) → length l ≤ length (join_one a b l)

@@ -18,14 +18,15 @@ pub enum Step {
     Join(usize, usize),
 }
 
-// The plate after a step, or the plate before it and the refusal.
+// The plate after a step, or the plate before it and the refusal. No `Result` of a plate: document 01 asks that a step hand the plate back with its verdict.
 #[derive(Clone, Copy)]
 pub struct Edited {
     pub plate: Plate,
     pub verdict: Result<(), Refusal>,
 }
 
-// `s` written from `at` on. Without a heap a list is the front of an array, and its length goes beside it.
+// `s` written from `at` on.
+// An array and no list of fixed capacity: the steps write into copies of the plate's arrays, whose places behind the darts are 0.
 pub fn append(list: [u8; 256], at: usize, s: &[u8]) -> [u8; 256]
     requires { at + length s.now ≤ 256 }
     ensures { Appended at s.now list result }
@@ -259,7 +260,8 @@ impl Plate {
         read_more(posts, darts + 2, &new_ends, &new_order, self.outer)
     }
 
-    // The methods `split`, `hang` and `join` differ in the step that they make; as one function of the step they are `apply`.
+    // `split`, `hang` and `join` stay three: document 01 names them. One function of the step is `apply`.
+
     // Strip `strip` ends at a new post, and a new strip runs from there to its old end.
     pub fn split(self, strip: usize) -> Edited
         ensures { EditedTo (split_fault (meant self) strip) (split (meant self) strip) self result }

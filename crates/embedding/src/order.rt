@@ -11,25 +11,14 @@ use crate::twin_of;
 fn all_distinct(s: &[u8]) -> bool
     ensures { result ≡ distinct s.now }
 {
-    for (i, d) in s.iter().enumerate() {
-        if s[i + 1..].contains(d) {
-            return false;
-        }
-    }
-    true
+    s.iter().enumerate().all(|(i, d)| !s[i + 1..].contains(d))
 }
 
 // Whether each of the darts of `s` is one of the plate and leaves post `v`.
 fn all_leave(ends: &[u8], v: usize, s: &[u8]) -> bool
     ensures { (n : ℕ) (o : List ℕ) (x : ℕ) → result ≡ all_leave (plate n ends.now o x) v s.now }
 {
-    for d in s {
-        let d = usize::from(*d);
-        if ends.len() <= d || usize::from(ends[d]) != v {
-            return false;
-        }
-    }
-    true
+    s.iter().all(|d| usize::from(*d) < ends.len() && usize::from(ends[usize::from(*d)]) == v)
 }
 
 // The bytes of `s`, and 0 behind them.
@@ -86,7 +75,7 @@ impl Lists<'_> {
 fn before_in(x: usize, s: &[u8]) -> u8
     ensures { result ≡ just_before x (last_of s.now) s.now }
 {
-    // A `for`: the element before x is the last where x stands first, so `position` would take a case more.
+    // A `for`: at the front the answer is the last element, so `position` would need a case more.
     let mut prev = s.last().copied().unwrap_or(0);
     for here in s {
         if x == usize::from(*here) {

@@ -30,10 +30,9 @@ impl Ordered<'_> {
         requires { s.old.count ≤ 64 }
         ensures { RoundMade self.now.ends.now s.old s.new }
     {
-        let mut left = self.ends;
-        while let [a, b, more @ ..] = left {
-            join(s, usize::from(*a), usize::from(*b));
-            left = more;
+        let (strips, _) = self.ends.as_chunks::<2>();
+        for strip in strips {
+            join(s, usize::from(strip[0]), usize::from(strip[1]));
         }
     }
 

@@ -5,7 +5,8 @@ ghost use Rattle.embedding.specs.Pass.{no_strips, add_end, add_strip, GoneOn, An
 
 use refusals::Refusal;
 
-// What was met so far: an end that is no post (9), a fifth place taken at a post (11); and how many places are taken at each post, one by each strip end, counted up to four.
+// What was met so far: an end that is no post (9), a fifth place taken at a post (11).
+// And how many places are taken at each post, one by each strip end, counted up to four.
 // Two marks and not a `Result`: 9 wins over 11 though 11 may be met first. An array: the library allocates nothing.
 // How many posts there are goes beside it, and each function asks that they fit: the state of the definitions does not hold it.
 #[derive(Clone, Copy)]
@@ -59,10 +60,9 @@ pub fn go_on(posts: usize, s: Strips, rest: &[u8]) -> Strips
     ensures { GoneOn posts s rest.now result }
 {
     let mut r = s;
-    let mut left = rest;
-    while let [a, b, more @ ..] = left {
-        add_strip(posts, &mut r, usize::from(*a), usize::from(*b));
-        left = more;
+    let (strips, _) = rest.as_chunks::<2>();
+    for strip in strips {
+        add_strip(posts, &mut r, usize::from(strip[0]), usize::from(strip[1]));
     }
     r
 }

@@ -1,4 +1,5 @@
-//! Plates read: the refusal's number, or 0 with the number of faces and their degrees, by lowest dart. The expected lines were compared with those of a separate program written from document 01.
+//! Plates read: the refusal's number, or 0 with the number of faces and their degrees, by lowest dart.
+//! The expected lines were compared with those of a separate program written from document 01.
 #![tactic(auto)]
 
 ghost use Rattle.std.specs.Prelude.{◌≡◌, List, ℕ, ◌%◌, ◌≤◌, length};

@@ -1,19 +1,14 @@
--- `all_distinct` meets its contract: what is left answers for the whole.
-use mathlib.Core.Path.{sym, ◌∙◌}
-use Prim.Native.Nat.{◌+◌}
-use lib.ListN.{get_or}
-use Rattle.embedding.proofs.Fronts.{distinct_on, distinct_not}
-use Rattle.embedding.proofs.Words.{contained}
+-- `all_distinct`: the test of each place is that of the definition.
+use mathlib.Core.Path.{◌∙◌}
+use Rattle.std.proofs.Common.{rules, tests}
+use Rattle.std.proofs.lemmas.Iterator.{YieldsList-from_slice}
+use Rattle.std.proofs.lemmas.Iterator.Consumers.{YieldsList-from_enumerate}
+use Rattle.std.proofs.lemmas.Iterator.Search.{all_from_yields_List}
+use Rattle.embedding.proofs.Words.{not_behind, distinct_all}
 use Rattle.embedding.proofs.order.all_distinct.Goals as goal
 
-pub returns-then-contains : goal.returns-then-contains
-returns-then-contains c =
-    let i = c.loop-i in
+pub returns : goal.returns
+returns c =
     let s = c.args.s.now in
-    distinct_not s i.i i.invariant c.loop-i-test.true (sym (contained (get_or s i.i 0) s (i.i + 1)) ∙ sym c.contains.ensures.value ∙ c.if-contains.true)
-
-pub loop-i-preserved : goal.loop-i-preserved
-loop-i-preserved c =
-    let i = c.loop-i in
-    let s = c.args.s.now in
-    distinct_on s i.i i.invariant c.loop-i-test.true (sym (contained (get_or s i.i 0) s (i.i + 1)) ∙ sym c.contains.ensures.value ∙ c.if-contains.false)
+    all_from_yields_List (not_behind s) _ _ c.all.result c.all.ensures.ran (YieldsList-from_enumerate (YieldsList-from_slice s cc) c.enumerate.ensures.count) (λ p b q k. search (rules, tests))
+    ∙ distinct_all s

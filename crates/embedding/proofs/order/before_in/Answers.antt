@@ -4,7 +4,7 @@ use Prim.Native.Nat.{ℕ, ◌-◌}
 use lib.ListN.{length, get_or}
 use Rattle.std.proofs.Common.{rules}
 use Rattle.embedding.specs.Plates.{just_before}
-use Rattle.embedding.proofs.Fronts.{last_is}
+use Rattle.embedding.proofs.Words.{last_is}
 use Rattle.embedding.proofs.order.before_in.Goals as goal
 
 pub loop-here-init : goal.loop-here-init

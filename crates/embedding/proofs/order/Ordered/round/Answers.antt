@@ -1,24 +1,15 @@
 -- `round` meets its contract.
-use mathlib.Core.Path.{sym, ap, subst, ◌∙◌}
-use mathlib.Core.List.{List}
-use Prim.Native.Nat.{ℕ, ◌<◌}
-use lib.ListN.{length, length-drop}
-use Rattle.finite.proofs.Lent.{rest_lent}
-use Rattle.embedding.specs.Plates.{all_below}
 use native.Mathlib.Omega.{arith}
-use Rattle.embedding.proofs.Reaching.{Rounding, rounding_more, below_front}
+use Rattle.embedding.proofs.Pairs.{pair_posts, round_made}
 use Rattle.embedding.proofs.order.Ordered.round.Goals as goal
 
-pub loop-left-preserved : goal.loop-left-preserved
-loop-left-preserved c =
+pub join-requires : goal.join-requires
+join-requires c =
     let q = c.args.self.now in
-    let loop = c.loop-left in
-    let left = loop.left.now in
-    let join = c.join in
-    let long : 1 < length left = omega (arith, c.in-len2-up.len_at_least) in
-    record {
-      joined = λ m h. subst (λ (es : List ℕ). Rounding q.ends.now m es join.new.s) (sym (rest_lent left 2))
-          (rounding_more (loop.invariant.joined m h) long c.from.ensures c.from-in-len2-up.ensures join.ensures);
-      below = ap (all_below q.posts) (rest_lent left 2) ∙ (below_front q.posts left long loop.invariant.below).2;
-      few = omega (arith, ap (length {A = ℕ}) (rest_lent left 2), length-drop 2 left, join.ensures.most, loop.invariant.few, long);
-    }
+    let strips = c.as_chunks.ensures in
+    let loop = c.loop-strip in
+    let (a, b) = pair_posts q.posts _ q.ends.now strips.front strips.front_len c.loop-strip-test.true q.below c.from.ensures c.from-in-loop-strip.ensures in
+    (omega (arith, a, q.few), omega (arith, b, q.few), omega (arith, c.requires, loop.invariant.few, c.loop-strip-test.true, strips.front_len, q.short))
+
+pub returns : goal.returns
+returns c = round_made _ _ c.as_chunks.ensures.front (omega (arith, c.loop-strip-test.false)) c.loop-strip.invariant.joined
