@@ -25,7 +25,7 @@ fn digits_long(n: usize) -> usize
     n.checked_ilog10().unwrap_or(0) as usize + 1
 }
 
-// How long a word of right and left bends is: - is one byte.
+// How long a word of right and left bends is: - is one byte. Right and left bends, here and below, go as two numbers: the definitions take two.
 #[tactic(auto, using(crate::proofs::PrintLaws::word_counted))]
 fn even_word_long(right: u8, left: u8) -> usize
     ensures long { result ≡ length (word_text (even_word right left)) }

@@ -16,7 +16,8 @@ fn run_long(s: &[u8], top: u8) -> usize
     s.iter().take_while(|b| (b'0'..=top).contains(*b)).count()
 }
 
-// The number that digits stand for, told exactly below 1000.
+// The number that digits stand for, told exactly below 1000. `console::decimal` is of the programs, refuses other bytes and stops at another
+// number; the library does not stand on it.
 fn number_in(digits: &[u8]) -> usize
     ensures { result ≡ capped (number_of 0 digits.now) }
 {
@@ -74,7 +75,7 @@ fn word_long(s: &[u8], digits: usize) -> usize
     }
 }
 
-// The right and left bends of a word of 1 to 255 digits or -, and a space.
+// The right and left bends of a word of 1 to 255 digits or -, and a space. They go as two numbers: the definitions take two.
 fn read_word(s: &[u8]) -> Option<(u8, u8, &[u8])>
     ensures { word_read s.now ≡ option_map (λ x. (x.0, x.1, x.2.now)) result }
 {
@@ -85,7 +86,7 @@ fn read_word(s: &[u8]) -> Option<(u8, u8, &[u8])>
     }
     let rest = read_space(&s[long..])?;
     let right = zeros_in(digits);
-    // `as`: both are at most 255, so `u8::try_from` would ask for an error that there is not.
+    // `as`: both are at most 255, and `try_from` would test it again.
     Some((right as u8, (digits.len() - right) as u8, rest))
 }
 
