@@ -65,8 +65,8 @@ fn take_entry<'a>(
         return None;
     }
     counted.angles[d] = entry.angle;
-    counted.rights[d] = entry.right;
-    counted.lefts[d] = entry.left;
+    counted.rights[d] = entry.word.right;
+    counted.lefts[d] = entry.word.left;
     Some(rest)
 }
 
@@ -87,7 +87,7 @@ pub fn parse(text: &[u8], plan: &[Turn]) -> Result<Counted, Refusal>
     // A while: each entry says by itself how long it is, so no iterator gives them.
     while !rest.is_empty() {
         let (entry, behind) = read_entry(rest).ok_or(Refusal::TextForm)?;
-        mixed |= entry.is_mixed();
+        mixed |= entry.word.is_mixed();
         left = take_entry(left, entry, &mut counted);
         closed = entry.last;
         rest = behind;
