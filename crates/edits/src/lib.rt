@@ -16,7 +16,7 @@ use fields::writing::write_field;
 use plates::reading::{PlateList, read_list};
 use refusals::Refusal;
 
-// The limit of the strip that a step makes; 255 means none.
+// The limit of the strip that a step makes, as field 07 writes it: 255 is none.
 fn new_limit(limits: &[u8], step: Step) -> u8
     ensures { result ≡ new_limit limits.now step }
 {
@@ -75,7 +75,7 @@ impl Grown<'_> {
         let darts = self.plate.darts;
         let order = self.plate.order();
         let second = write_field(out, 0, 0x01, self.list.fields.revision);
-        // `as`: there are at most 64 posts, and `u8::try_from` would test it again.
+        // `as`: there are at most 64 posts, and `try_from` would test it again.
         let third = write_field(out, second, 0x02, &[self.plate.posts as u8]);
         let fourth = write_field(out, third, 0x03, &self.plate.ends[..darts]);
         let fifth = write_field(out, fourth, 0x04, &order[..darts]);

@@ -14,6 +14,51 @@ use refusals::Refusal;
 use std::io;
 use texts::{read_text, write_text};
 
+// The files that stand in several cases, by what they are. A file of one or two cases stands where it is used.
+
+// Document 01's P1: two strips between two posts.
+const P1: &[u8] =
+    b"\x01\x00\x02\x00\x07\x02\x00\x01\x02\x03\x00\x04\x00\x01\x00\x01\x04\x00\x04\x00\x02\x01\x03\x05\x00\x01\x01";
+
+// P1, each strip with at most one bend.
+const P1_LIMITS_1_1: &[u8] =
+    b"\x01\x00\x02\x00\x07\x02\x00\x01\x02\x03\x00\x04\x00\x01\x00\x01\x04\x00\x04\x00\x02\x01\x03\x05\x00\x01\x01\x07\x00\x02\x01\x01";
+
+// P1, strip 0 with at most one bend, strip 1 with none: no shape keeps these limits.
+const P1_LIMITS_1_0: &[u8] =
+    b"\x01\x00\x02\x00\x07\x02\x00\x01\x02\x03\x00\x04\x00\x01\x00\x01\x04\x00\x04\x00\x02\x01\x03\x05\x00\x01\x01\x07\x00\x02\x01\x00";
+
+// P3: a square.
+const P3: &[u8] =
+    b"\x01\x00\x02\x00\x07\x02\x00\x01\x04\x03\x00\x08\x00\x01\x01\x02\x02\x03\x03\x00\x04\x00\x08\x00\x07\x01\x02\x03\x04\x05\x06\x05\x00\x01\x01";
+
+// P6: two strips in a row.
+const P6: &[u8] =
+    b"\x01\x00\x02\x00\x07\x02\x00\x01\x03\x03\x00\x04\x00\x01\x01\x02\x04\x00\x04\x00\x01\x02\x03\x05\x00\x01\x01";
+
+// P8: three strips between two posts, with one face only.
+const P8: &[u8] =
+    b"\x01\x00\x02\x00\x07\x02\x00\x01\x02\x03\x00\x06\x00\x01\x00\x01\x00\x01\x04\x00\x06\x00\x02\x04\x01\x03\x05\x05\x00\x01\x01";
+
+// One post, one strip from it to itself.
+const TO_ITSELF: &[u8] =
+    b"\x01\x00\x02\x00\x07\x02\x00\x01\x01\x03\x00\x02\x00\x00\x04\x00\x02\x00\x01\x05\x00\x01\x01";
+
+// The shape of P1 that we write: both bends on dart 3.
+const P1_SHAPE: &[u8] =
+    b"\x11\x00\x02\x00\x07\x12\x00\x02\x00\x02\x13\x00\x04\x01\x03\x03\x01\x14\x00\x04\x00\x00\x00\x02";
+
+// The shape of P1 within limits 1 1: a bend on each strip.
+const P1_ONE_EACH: &[u8] =
+    b"\x11\x00\x02\x00\x07\x12\x00\x02\x00\x02\x13\x00\x04\x01\x03\x03\x01\x14\x00\x04\x01\x00\x00\x01";
+
+// A sound shape of P1 whose strip 0 bends both ways.
+const P1_BOTH_WAYS: &[u8] =
+    b"\x11\x00\x02\x00\x07\x12\x00\x02\x00\x04\x13\x00\x04\x01\x03\x03\x01\x14\x00\x04\x01\x01\x00\x02";
+
+// The text of P1's shape.
+const P1_TEXT: &[u8] = b"1 - 3 2 11 3\n0 - 1 3 00 1\n";
+
 // Writes bytes in hexadecimal, each behind a blank.
 fn say_bytes(rt: &impl Print, s: &[u8]) -> io::Result<()> {
     for byte in s {
@@ -61,6 +106,7 @@ fn say_shaped(
     }
 }
 
+// A label with files and memory, here and below, is a case; a struct of them makes each call longer.
 fn shape_into(rt: &impl Print, label: &str, list: &[u8], memory: &mut [u8]) -> io::Result<()> {
     let shaped = write_shape(list, memory);
     say_shaped(rt, "shape", label, shaped, memory)
@@ -85,23 +131,10 @@ fn check(rt: &impl Print, label: &str, list: &[u8], shape: &[u8]) -> io::Result<
     }
 }
 
-fn check_p1(rt: &impl Print, label: &str, shape: &[u8]) -> io::Result<()> {
-    check(
-        rt,
-        label,
-        b"\x01\x00\x02\x00\x07\x02\x00\x01\x02\x03\x00\x04\x00\x01\x00\x01\x04\x00\x04\x00\x02\x01\x03\x05\x00\x01\x01",
-        shape,
-    )
-}
-
 // Document 01's P1 to P4: number, bends, angles and right bends are those written there.
 fn first_plates(rt: &impl Print) -> io::Result<()> {
     // Two strips between two posts: both bends on dart 3.
-    shape(
-        rt,
-        "P1",
-        b"\x01\x00\x02\x00\x07\x02\x00\x01\x02\x03\x00\x04\x00\x01\x00\x01\x04\x00\x04\x00\x02\x01\x03\x05\x00\x01\x01",
-    )?;
+    shape(rt, "P1", P1)?;
     // A triangle: three corners of a quarter turn inside, so one bend, on dart 4.
     shape(
         rt,
@@ -109,11 +142,7 @@ fn first_plates(rt: &impl Print) -> io::Result<()> {
         b"\x01\x00\x02\x00\x07\x02\x00\x01\x03\x03\x00\x06\x00\x01\x01\x02\x02\x00\x04\x00\x06\x00\x05\x01\x02\x03\x04\x05\x00\x01\x01",
     )?;
     // A square: no bend.
-    shape(
-        rt,
-        "P3",
-        b"\x01\x00\x02\x00\x07\x02\x00\x01\x04\x03\x00\x08\x00\x01\x01\x02\x02\x03\x03\x00\x04\x00\x08\x00\x07\x01\x02\x03\x04\x05\x06\x05\x00\x01\x01",
-    )?;
+    shape(rt, "P3", P3)?;
     // One strip: a whole turn at each end.
     shape(
         rt,
@@ -131,11 +160,7 @@ fn more_plates(rt: &impl Print) -> io::Result<()> {
         b"\x01\x00\x02\x00\x07\x02\x00\x01\x05\x03\x00\x08\x00\x01\x00\x02\x00\x03\x00\x04\x04\x00\x08\x00\x02\x04\x06\x01\x03\x05\x07\x05\x00\x01\x01",
     )?;
     // Two strips in a row: among equal totals the smaller angle of dart 0 comes first.
-    shape(
-        rt,
-        "P6",
-        b"\x01\x00\x02\x00\x07\x02\x00\x01\x03\x03\x00\x04\x00\x01\x01\x02\x04\x00\x04\x00\x01\x02\x03\x05\x00\x01\x01",
-    )?;
+    shape(rt, "P6", P6)?;
     // Three strips between two posts: two bends on dart 0 and two on dart 5.
     shape(
         rt,
@@ -143,11 +168,7 @@ fn more_plates(rt: &impl Print) -> io::Result<()> {
         b"\x01\x00\x02\x00\x07\x02\x00\x01\x02\x03\x00\x06\x00\x01\x00\x01\x00\x01\x04\x00\x06\x00\x02\x04\x05\x03\x01\x05\x00\x01\x01",
     )?;
     // P7 with the order at post 1 turned round: one face only.
-    shape(
-        rt,
-        "P8",
-        b"\x01\x00\x02\x00\x07\x02\x00\x01\x02\x03\x00\x06\x00\x01\x00\x01\x00\x01\x04\x00\x06\x00\x02\x04\x01\x03\x05\x05\x00\x01\x01",
-    )
+    shape(rt, "P8", P8)
 }
 
 // Document 01's P10, but for the memory: what just passes and what just does not.
@@ -193,11 +214,7 @@ fn walk_refusals(rt: &impl Print) -> io::Result<()> {
     // A tag that no file has.
     shape(rt, "tag 08", b"\x08\x00\x00")?;
     // A tag of the shape file.
-    shape(
-        rt,
-        "tag 11",
-        b"\x11\x00\x02\x00\x07\x12\x00\x02\x00\x02\x13\x00\x04\x01\x03\x03\x01\x14\x00\x04\x00\x00\x00\x02",
-    )?;
+    shape(rt, "tag 11", P1_SHAPE)?;
     // A tag met before.
     shape(
         rt,
@@ -317,11 +334,7 @@ fn strips_to_itself(rt: &impl Print) -> io::Result<()> {
         b"\x01\x00\x02\x00\x07\x02\x00\x01\x02\x03\x00\x04\x00\x01\x01\x01\x04\x00\x04\x00\x01\x02\x03\x05\x00\x01\x00",
     )?;
     // One post, one strip: three bends on dart 0.
-    shape(
-        rt,
-        "one strip to itself",
-        b"\x01\x00\x02\x00\x07\x02\x00\x01\x01\x03\x00\x02\x00\x00\x04\x00\x02\x00\x01\x05\x00\x01\x01",
-    )?;
+    shape(rt, "one strip to itself", TO_ITSELF)?;
     // 11 counts places: two strips to itself take four, three take six.
     shape(
         rt,
@@ -417,19 +430,9 @@ fn copies(rt: &impl Print) -> io::Result<()> {
 fn memory(rt: &impl Print) -> io::Result<()> {
     // P1's shape has 24 bytes.
     let mut short = [0xeeu8; 23];
-    shape_into(
-        rt,
-        "P1 in 23",
-        b"\x01\x00\x02\x00\x07\x02\x00\x01\x02\x03\x00\x04\x00\x01\x00\x01\x04\x00\x04\x00\x02\x01\x03\x05\x00\x01\x01",
-        &mut short,
-    )?;
+    shape_into(rt, "P1 in 23", P1, &mut short)?;
     let mut enough = [0xeeu8; 24];
-    shape_into(
-        rt,
-        "P1 in 24",
-        b"\x01\x00\x02\x00\x07\x02\x00\x01\x02\x03\x00\x04\x00\x01\x00\x01\x04\x00\x04\x00\x02\x01\x03\x05\x00\x01\x01",
-        &mut enough,
-    )?;
+    shape_into(rt, "P1 in 24", P1, &mut enough)?;
     // A remark takes no memory.
     let mut near = [0xeeu8; 23];
     shape_into(
@@ -446,38 +449,27 @@ fn memory(rt: &impl Print) -> io::Result<()> {
         &mut just,
     )?;
     // 15 comes before 16: P8 with no memory at all.
-    shape_into(
-        rt,
-        "P8 in 0",
-        b"\x01\x00\x02\x00\x07\x02\x00\x01\x02\x03\x00\x06\x00\x01\x00\x01\x00\x01\x04\x00\x06\x00\x02\x04\x01\x03\x05\x05\x00\x01\x01",
-        &mut short[..0],
-    )
+    shape_into(rt, "P8 in 0", P8, &mut short[..0])
 }
 
 // Sound shapes of P1. Its inner face, darts 0 and 3, wants two bends more to the right than to the left.
 fn sound_p1(rt: &impl Print) -> io::Result<()> {
     // The shape that we write.
-    check_p1(
-        rt,
-        "P1",
-        b"\x11\x00\x02\x00\x07\x12\x00\x02\x00\x02\x13\x00\x04\x01\x03\x03\x01\x14\x00\x04\x00\x00\x00\x02",
-    )?;
+    check(rt, "P1", P1, P1_SHAPE)?;
     // Both bends on dart 0: as few, but dart 0 has more.
-    check_p1(
+    check(
         rt,
         "P1, bends on dart 0",
+        P1,
         b"\x11\x00\x02\x00\x07\x12\x00\x02\x00\x02\x13\x00\x04\x01\x03\x03\x01\x14\x00\x04\x02\x00\x00\x00",
     )?;
     // A bend on each strip.
-    check_p1(
-        rt,
-        "P1, a bend on each",
-        b"\x11\x00\x02\x00\x07\x12\x00\x02\x00\x02\x13\x00\x04\x01\x03\x03\x01\x14\x00\x04\x01\x00\x00\x01",
-    )?;
+    check(rt, "P1, a bend on each", P1, P1_ONE_EACH)?;
     // Three to the right and one to the left on strip 1: more than the fewest.
-    check_p1(
+    check(
         rt,
         "P1, four bends",
+        P1,
         b"\x11\x00\x02\x00\x07\x12\x00\x02\x00\x04\x13\x00\x04\x01\x03\x03\x01\x14\x00\x04\x00\x00\x01\x03",
     )
 }
@@ -485,27 +477,31 @@ fn sound_p1(rt: &impl Print) -> io::Result<()> {
 // More sound shapes of P1: bends of two bytes, another angle, a remark, the fields in reversed order.
 fn sound_p1_with_more(rt: &impl Print) -> io::Result<()> {
     // 255 and 253 of them: a total of two bytes.
-    check_p1(
+    check(
         rt,
         "P1, 508 bends",
+        P1,
         b"\x11\x00\x02\x00\x07\x12\x00\x02\x01\xfc\x13\x00\x04\x01\x03\x03\x01\x14\x00\x04\x00\x00\xfd\xff",
     )?;
     // A wider corner inside: one bend more.
-    check_p1(
+    check(
         rt,
         "P1, angle 2 inside",
+        P1,
         b"\x11\x00\x02\x00\x07\x12\x00\x02\x00\x03\x13\x00\x04\x02\x03\x02\x01\x14\x00\x04\x00\x00\x00\x03",
     )?;
     // The remark makes no difference.
-    check_p1(
+    check(
         rt,
         "P1, with remark",
+        P1,
         b"\x11\x00\x02\x00\x07\x12\x00\x02\x00\x02\x13\x00\x04\x01\x03\x03\x01\x14\x00\x04\x00\x00\x00\x02\x15\x00\x01\x41",
     )?;
     // The fields in reversed order.
-    check_p1(
+    check(
         rt,
         "P1 reversed, with remark",
+        P1,
         b"\x15\x00\x01\x41\x14\x00\x04\x00\x00\x00\x02\x13\x00\x04\x01\x03\x03\x01\x12\x00\x02\x00\x02\x11\x00\x02\x00\x07",
     )
 }
@@ -516,28 +512,28 @@ fn sound_others(rt: &impl Print) -> io::Result<()> {
     check(
         rt,
         "P3",
-        b"\x01\x00\x02\x00\x07\x02\x00\x01\x04\x03\x00\x08\x00\x01\x01\x02\x02\x03\x03\x00\x04\x00\x08\x00\x07\x01\x02\x03\x04\x05\x06\x05\x00\x01\x01",
+        P3,
         b"\x11\x00\x02\x00\x07\x12\x00\x02\x00\x00\x13\x00\x08\x01\x03\x01\x03\x01\x03\x01\x03\x14\x00\x08\x00\x00\x00\x00\x00\x00\x00\x00",
     )?;
     // A strip that bends right and left.
     check(
         rt,
         "P3, right and left",
-        b"\x01\x00\x02\x00\x07\x02\x00\x01\x04\x03\x00\x08\x00\x01\x01\x02\x02\x03\x03\x00\x04\x00\x08\x00\x07\x01\x02\x03\x04\x05\x06\x05\x00\x01\x01",
+        P3,
         b"\x11\x00\x02\x00\x07\x12\x00\x02\x00\x02\x13\x00\x08\x01\x03\x01\x03\x01\x03\x01\x03\x14\x00\x08\x01\x01\x00\x00\x00\x00\x00\x00",
     )?;
     // The shape that we write, straight on at post 1.
     check(
         rt,
         "P6",
-        b"\x01\x00\x02\x00\x07\x02\x00\x01\x03\x03\x00\x04\x00\x01\x01\x02\x04\x00\x04\x00\x01\x02\x03\x05\x00\x01\x01",
+        P6,
         b"\x11\x00\x02\x00\x07\x12\x00\x02\x00\x00\x13\x00\x04\x02\x04\x04\x02\x14\x00\x04\x00\x00\x00\x00",
     )?;
     // A corner at post 1: no bend either, and a smaller angle of dart 0.
     check(
         rt,
         "P6, cornered",
-        b"\x01\x00\x02\x00\x07\x02\x00\x01\x03\x03\x00\x04\x00\x01\x01\x02\x04\x00\x04\x00\x01\x02\x03\x05\x00\x01\x01",
+        P6,
         b"\x11\x00\x02\x00\x07\x12\x00\x02\x00\x00\x13\x00\x04\x01\x04\x04\x03\x14\x00\x04\x00\x00\x00\x00",
     )?;
     // The shape that we write.
@@ -555,21 +551,21 @@ fn check_to_itself(rt: &impl Print) -> io::Result<()> {
     check(
         rt,
         "to itself",
-        b"\x01\x00\x02\x00\x07\x02\x00\x01\x01\x03\x00\x02\x00\x00\x04\x00\x02\x00\x01\x05\x00\x01\x01",
+        TO_ITSELF,
         b"\x11\x00\x02\x00\x07\x12\x00\x02\x00\x03\x13\x00\x02\x01\x03\x14\x00\x02\x03\x00",
     )?;
     // A larger angle inside takes a bend more.
     check(
         rt,
         "to itself, angle 2 inside",
-        b"\x01\x00\x02\x00\x07\x02\x00\x01\x01\x03\x00\x02\x00\x00\x04\x00\x02\x00\x01\x05\x00\x01\x01",
+        TO_ITSELF,
         b"\x11\x00\x02\x00\x07\x12\x00\x02\x00\x04\x13\x00\x02\x02\x02\x14\x00\x02\x04\x00",
     )?;
     // The inner face does not close.
     check(
         rt,
         "to itself, two bends",
-        b"\x01\x00\x02\x00\x07\x02\x00\x01\x01\x03\x00\x02\x00\x00\x04\x00\x02\x00\x01\x05\x00\x01\x01",
+        TO_ITSELF,
         b"\x11\x00\x02\x00\x07\x12\x00\x02\x00\x02\x13\x00\x02\x01\x03\x14\x00\x02\x02\x00",
     )
 }
@@ -577,40 +573,34 @@ fn check_to_itself(rt: &impl Print) -> io::Result<()> {
 // Faults of the list come before those of the shape, and the shape's walk before the rest.
 fn check_walks(rt: &impl Print) -> io::Result<()> {
     // 15 of the list before 6 of the shape.
-    check(
-        rt,
-        "P8 and no shape",
-        b"\x01\x00\x02\x00\x07\x02\x00\x01\x02\x03\x00\x06\x00\x01\x00\x01\x00\x01\x04\x00\x06\x00\x02\x04\x01\x03\x05\x05\x00\x01\x01",
-        b"",
-    )?;
+    check(rt, "P8 and no shape", P8, b"")?;
     // 6 of the list before 1 of the shape.
     check(rt, "no list and one byte", b"", b"\x11")?;
     // One byte remains.
-    check_p1(rt, "shape of one byte", b"\x11")?;
+    check(rt, "shape of one byte", P1, b"\x11")?;
     // A tag of the plate list.
-    check_p1(
-        rt,
-        "list as shape",
-        b"\x01\x00\x02\x00\x07\x02\x00\x01\x02\x03\x00\x04\x00\x01\x00\x01\x04\x00\x04\x00\x02\x01\x03\x05\x00\x01\x01",
-    )?;
+    check(rt, "list as shape", P1, P1)?;
     // A tag met before.
-    check_p1(
+    check(
         rt,
         "total twice",
+        P1,
         b"\x12\x00\x02\x00\x02\x12\x00\x02\x00\x02",
     )?;
     // A total has two bytes.
-    check_p1(rt, "total of one", b"\x12\x00\x01\x02")?;
+    check(rt, "total of one", P1, b"\x12\x00\x01\x02")?;
     // One byte of right bends is missing.
-    check_p1(
+    check(
         rt,
         "shape cut",
+        P1,
         b"\x11\x00\x02\x00\x07\x12\x00\x02\x00\x02\x13\x00\x04\x01\x03\x03\x01\x14\x00\x04\x00\x00\x00",
     )?;
     // No right bends.
-    check_p1(
+    check(
         rt,
         "no right bends",
+        P1,
         b"\x11\x00\x02\x00\x07\x12\x00\x02\x00\x02\x13\x00\x04\x01\x03\x03\x01",
     )
 }
@@ -618,33 +608,38 @@ fn check_walks(rt: &impl Print) -> io::Result<()> {
 // Refusals 17 and 18 of damaged copies of P1's shape, each against the next.
 fn check_lengths(rt: &impl Print) -> io::Result<()> {
     // Three angles for four darts.
-    check_p1(
+    check(
         rt,
         "three angles",
+        P1,
         b"\x11\x00\x02\x00\x07\x12\x00\x02\x00\x02\x13\x00\x03\x01\x03\x03\x14\x00\x04\x00\x00\x00\x02",
     )?;
     // Six right bends for four darts.
-    check_p1(
+    check(
         rt,
         "six right bends",
+        P1,
         b"\x11\x00\x02\x00\x07\x12\x00\x02\x00\x02\x13\x00\x04\x01\x03\x03\x01\x14\x00\x06\x00\x00\x00\x02\x00\x00",
     )?;
     // 17 comes before 18.
-    check_p1(
+    check(
         rt,
         "three angles, revision 8",
+        P1,
         b"\x11\x00\x02\x00\x08\x12\x00\x02\x00\x02\x13\x00\x03\x01\x03\x03\x14\x00\x04\x00\x00\x00\x02",
     )?;
     // The list has revision 7.
-    check_p1(
+    check(
         rt,
         "revision 8",
+        P1,
         b"\x11\x00\x02\x00\x08\x12\x00\x02\x00\x02\x13\x00\x04\x01\x03\x03\x01\x14\x00\x04\x00\x00\x00\x02",
     )?;
     // The high byte counts too. 18 comes before 19.
-    check_p1(
+    check(
         rt,
         "revision 263, angle 0",
+        P1,
         b"\x11\x00\x02\x01\x07\x12\x00\x02\x00\x02\x13\x00\x04\x00\x03\x04\x01\x14\x00\x04\x00\x00\x00\x02",
     )
 }
@@ -652,27 +647,31 @@ fn check_lengths(rt: &impl Print) -> io::Result<()> {
 // Refusals 19 and 20 of damaged copies of P1's shape, each against the next.
 fn check_angles(rt: &impl Print) -> io::Result<()> {
     // An angle of 0, though the angles at both posts add to 4.
-    check_p1(
+    check(
         rt,
         "angle 0",
+        P1,
         b"\x11\x00\x02\x00\x07\x12\x00\x02\x00\x03\x13\x00\x04\x00\x03\x04\x01\x14\x00\x04\x00\x00\x00\x03",
     )?;
     // 19 comes before 20.
-    check_p1(
+    check(
         rt,
         "angle 5",
+        P1,
         b"\x11\x00\x02\x00\x07\x12\x00\x02\x00\x02\x13\x00\x04\x05\x03\x03\x01\x14\x00\x04\x00\x00\x00\x02",
     )?;
     // Angles 2 and 3 at post 1, 2 and 1 at post 0; both faces are right.
-    check_p1(
+    check(
         rt,
         "angles at posts",
+        P1,
         b"\x11\x00\x02\x00\x07\x12\x00\x02\x00\x03\x13\x00\x04\x02\x02\x03\x01\x14\x00\x04\x00\x00\x00\x03",
     )?;
     // 20 comes before 21.
-    check_p1(
+    check(
         rt,
         "angles at a post",
+        P1,
         b"\x11\x00\x02\x00\x07\x12\x00\x02\x00\x02\x13\x00\x04\x01\x03\x03\x02\x14\x00\x04\x00\x00\x00\x02",
     )
 }
@@ -680,27 +679,31 @@ fn check_angles(rt: &impl Print) -> io::Result<()> {
 // Refusals 21 and 22 of damaged copies of P1's shape, each against the next.
 fn check_turns(rt: &impl Print) -> io::Result<()> {
     // A bend too few.
-    check_p1(
+    check(
         rt,
         "one bend",
+        P1,
         b"\x11\x00\x02\x00\x07\x12\x00\x02\x00\x01\x13\x00\x04\x01\x03\x03\x01\x14\x00\x04\x00\x00\x00\x01",
     )?;
     // The bends on the other side of the strip.
-    check_p1(
+    check(
         rt,
         "bends on dart 2",
+        P1,
         b"\x11\x00\x02\x00\x07\x12\x00\x02\x00\x02\x13\x00\x04\x01\x03\x03\x01\x14\x00\x04\x00\x00\x02\x00",
     )?;
     // 21 comes before 22.
-    check_p1(
+    check(
         rt,
         "one bend, total 2",
+        P1,
         b"\x11\x00\x02\x00\x07\x12\x00\x02\x00\x02\x13\x00\x04\x01\x03\x03\x01\x14\x00\x04\x00\x00\x00\x01",
     )?;
     // Each bend counts once.
-    check_p1(
+    check(
         rt,
         "total 4",
+        P1,
         b"\x11\x00\x02\x00\x07\x12\x00\x02\x00\x04\x13\x00\x04\x01\x03\x03\x01\x14\x00\x04\x00\x00\x00\x02",
     )
 }
@@ -708,11 +711,7 @@ fn check_turns(rt: &impl Print) -> io::Result<()> {
 // Limits of bends: the shape within them, 23 and 24.
 fn bend_limits(rt: &impl Print) -> io::Result<()> {
     // Each strip of P1 takes one of the two bends.
-    shape(
-        rt,
-        "P1, limits 1 1",
-        b"\x01\x00\x02\x00\x07\x02\x00\x01\x02\x03\x00\x04\x00\x01\x00\x01\x04\x00\x04\x00\x02\x01\x03\x05\x00\x01\x01\x07\x00\x02\x01\x01",
-    )?;
+    shape(rt, "P1, limits 1 1", P1_LIMITS_1_1)?;
     // Both bends on strip 0.
     shape(
         rt,
@@ -732,30 +731,16 @@ fn bend_limits(rt: &impl Print) -> io::Result<()> {
         b"\x01\x00\x02\x00\x07\x02\x00\x01\x02\x03\x00\x06\x00\x01\x00\x01\x00\x01\x04\x00\x06\x00\x02\x04\x05\x03\x01\x05\x00\x01\x01\x07\x00\x03\x01\xff\xff",
     )?;
     // The inner face wants two bends.
-    shape(
-        rt,
-        "P1, limits 1 0",
-        b"\x01\x00\x02\x00\x07\x02\x00\x01\x02\x03\x00\x04\x00\x01\x00\x01\x04\x00\x04\x00\x02\x01\x03\x05\x00\x01\x01\x07\x00\x02\x01\x00",
-    )
+    shape(rt, "P1, limits 1 0", P1_LIMITS_1_0)
 }
 
 // Limits of bends in memory one byte short: 24 and 16.
 fn bend_limits_in_23(rt: &impl Print) -> io::Result<()> {
     let mut short = [0xeeu8; 23];
     // 24 comes before 16.
-    shape_into(
-        rt,
-        "P1, limits 1 0, in 23",
-        b"\x01\x00\x02\x00\x07\x02\x00\x01\x02\x03\x00\x04\x00\x01\x00\x01\x04\x00\x04\x00\x02\x01\x03\x05\x00\x01\x01\x07\x00\x02\x01\x00",
-        &mut short,
-    )?;
+    shape_into(rt, "P1, limits 1 0, in 23", P1_LIMITS_1_0, &mut short)?;
     // Where some shape keeps the limits there is 16.
-    shape_into(
-        rt,
-        "P1, limits 1 1, in 23",
-        b"\x01\x00\x02\x00\x07\x02\x00\x01\x02\x03\x00\x04\x00\x01\x00\x01\x04\x00\x04\x00\x02\x01\x03\x05\x00\x01\x01\x07\x00\x02\x01\x01",
-        &mut short,
-    )
+    shape_into(rt, "P1, limits 1 1, in 23", P1_LIMITS_1_1, &mut short)
 }
 
 // Limits of bends that are refused, and what comes before them.
@@ -789,33 +774,23 @@ fn limits_refused(rt: &impl Print) -> io::Result<()> {
 // Limits of bends against shape files: 25, and what comes before it.
 fn check_limits(rt: &impl Print) -> io::Result<()> {
     // The shape that we write within the limits.
-    check(
-        rt,
-        "P1, limits 1 1",
-        b"\x01\x00\x02\x00\x07\x02\x00\x01\x02\x03\x00\x04\x00\x01\x00\x01\x04\x00\x04\x00\x02\x01\x03\x05\x00\x01\x01\x07\x00\x02\x01\x01",
-        b"\x11\x00\x02\x00\x07\x12\x00\x02\x00\x02\x13\x00\x04\x01\x03\x03\x01\x14\x00\x04\x01\x00\x00\x01",
-    )?;
+    check(rt, "P1, limits 1 1", P1_LIMITS_1_1, P1_ONE_EACH)?;
     // As few bends, but two on strip 1.
     check(
         rt,
         "P1, limits 1 1, bends on dart 3",
-        b"\x01\x00\x02\x00\x07\x02\x00\x01\x02\x03\x00\x04\x00\x01\x00\x01\x04\x00\x04\x00\x02\x01\x03\x05\x00\x01\x01\x07\x00\x02\x01\x01",
-        b"\x11\x00\x02\x00\x07\x12\x00\x02\x00\x02\x13\x00\x04\x01\x03\x03\x01\x14\x00\x04\x00\x00\x00\x02",
+        P1_LIMITS_1_1,
+        P1_SHAPE,
     )?;
     // 22 comes before 25.
     check(
         rt,
         "P1, limits 1 1, total 4",
-        b"\x01\x00\x02\x00\x07\x02\x00\x01\x02\x03\x00\x04\x00\x01\x00\x01\x04\x00\x04\x00\x02\x01\x03\x05\x00\x01\x01\x07\x00\x02\x01\x01",
+        P1_LIMITS_1_1,
         b"\x11\x00\x02\x00\x07\x12\x00\x02\x00\x04\x13\x00\x04\x01\x03\x03\x01\x14\x00\x04\x00\x00\x00\x02",
     )?;
     // No shape keeps the limits, so each passes one.
-    check(
-        rt,
-        "P1, limits 1 0",
-        b"\x01\x00\x02\x00\x07\x02\x00\x01\x02\x03\x00\x04\x00\x01\x00\x01\x04\x00\x04\x00\x02\x01\x03\x05\x00\x01\x01\x07\x00\x02\x01\x00",
-        b"\x11\x00\x02\x00\x07\x12\x00\x02\x00\x02\x13\x00\x04\x01\x03\x03\x01\x14\x00\x04\x01\x00\x00\x01",
-    )
+    check(rt, "P1, limits 1 0", P1_LIMITS_1_0, P1_ONE_EACH)
 }
 
 // Bends to both sides, the fewest within limits, and 23 before all of the shape file.
@@ -866,7 +841,7 @@ fn ring_heads() -> [u8; 614] {
 
 // Two strips go from post v to the next, strip 2v outside and strip 2v + 1 inside. Clockwise at a post: outside and
 // inside to the next post, inside and outside to the one before.
-fn ring_post(mut list: [u8; 614], v: u8) -> [u8; 614]
+fn ring_post(list: &mut [u8; 614], v: u8)
     requires { v < 64 }
 {
     let next = (v + 1) % 64;
@@ -880,15 +855,12 @@ fn ring_post(mut list: [u8; 614], v: u8) -> [u8; 614]
     list[272 + at] = 4 * v + 2;
     list[273 + at] = 4 * before + 3;
     list[274 + at] = 4 * before + 1;
-    list
 }
 
 fn ring_list() -> [u8; 614] {
     let mut list = ring_heads();
     for v in 0..64 {
-        // A local between: a call's result is not laid in an array that was handed to it.
-        let more = ring_post(list, v);
-        list = more;
+        ring_post(&mut list, v);
     }
     list
 }
@@ -928,15 +900,6 @@ fn text(rt: &impl Print, label: &str, list: &[u8], shape: &[u8]) -> io::Result<(
     text_into(rt, label, list, shape, &mut memory)
 }
 
-fn text_p1(rt: &impl Print, label: &str, shape: &[u8]) -> io::Result<()> {
-    text(
-        rt,
-        label,
-        b"\x01\x00\x02\x00\x07\x02\x00\x01\x02\x03\x00\x04\x00\x01\x00\x01\x04\x00\x04\x00\x02\x01\x03\x05\x00\x01\x01",
-        shape,
-    )
-}
-
 // Converts a text to its shape file. Three slices, as the call that is tried takes them.
 fn back_into(
     rt: &impl Print,
@@ -954,22 +917,9 @@ fn back(rt: &impl Print, label: &str, list: &[u8], text: &[u8]) -> io::Result<()
     back_into(rt, label, list, text, &mut memory)
 }
 
-fn back_p1(rt: &impl Print, label: &str, text: &[u8]) -> io::Result<()> {
-    back(
-        rt,
-        label,
-        b"\x01\x00\x02\x00\x07\x02\x00\x01\x02\x03\x00\x04\x00\x01\x00\x01\x04\x00\x04\x00\x02\x01\x03\x05\x00\x01\x01",
-        text,
-    )
-}
-
 // To text: P1, P2, a strip to itself, a shape that is not ours; a remark of a file, which is passed over.
 fn texts(rt: &impl Print) -> io::Result<()> {
-    text_p1(
-        rt,
-        "P1",
-        b"\x11\x00\x02\x00\x07\x12\x00\x02\x00\x02\x13\x00\x04\x01\x03\x03\x01\x14\x00\x04\x00\x00\x00\x02",
-    )?;
+    text(rt, "P1", P1, P1_SHAPE)?;
     text(
         rt,
         "P2",
@@ -979,37 +929,39 @@ fn texts(rt: &impl Print) -> io::Result<()> {
     text(
         rt,
         "one strip to itself",
-        b"\x01\x00\x02\x00\x07\x02\x00\x01\x01\x03\x00\x02\x00\x00\x04\x00\x02\x00\x01\x05\x00\x01\x01",
+        TO_ITSELF,
         b"\x11\x00\x02\x00\x07\x12\x00\x02\x00\x03\x13\x00\x02\x01\x03\x14\x00\x02\x03\x00",
     )?;
-    text_p1(
+    text(
         rt,
         "P1, bends on dart 0",
+        P1,
         b"\x11\x00\x02\x00\x07\x12\x00\x02\x00\x02\x13\x00\x04\x01\x03\x03\x01\x14\x00\x04\x02\x00\x00\x00",
     )?;
-    text_p1(
+    text(
         rt,
         "P1, with remark",
+        P1,
         b"\x11\x00\x02\x00\x07\x12\x00\x02\x00\x02\x13\x00\x04\x01\x03\x03\x01\x14\x00\x04\x00\x00\x00\x02\x15\x00\x01\x41",
     )
 }
 
 // Back: P1, a shape that is not ours, a strip to itself; a remark of a list, which is passed over.
 fn texts_back(rt: &impl Print) -> io::Result<()> {
-    back_p1(rt, "P1", b"1 - 3 2 11 3\n0 - 1 3 00 1\n")?;
-    back_p1(rt, "P1, bends on dart 0", b"1 11 3 2 - 3\n0 00 1 3 - 1\n")?;
+    back(rt, "P1", P1, P1_TEXT)?;
+    back(
+        rt,
+        "P1, bends on dart 0",
+        P1,
+        b"1 11 3 2 - 3\n0 00 1 3 - 1\n",
+    )?;
     back(
         rt,
         "P1 and remark",
         b"\x01\x00\x02\x00\x07\x02\x00\x01\x02\x03\x00\x04\x00\x01\x00\x01\x04\x00\x04\x00\x02\x01\x03\x05\x00\x01\x01\x06\x00\x02\x48\x69",
-        b"1 - 3 2 11 3\n0 - 1 3 00 1\n",
+        P1_TEXT,
     )?;
-    back(
-        rt,
-        "one strip to itself",
-        b"\x01\x00\x02\x00\x07\x02\x00\x01\x01\x03\x00\x02\x00\x00\x04\x00\x02\x00\x01\x05\x00\x01\x01",
-        b"1 111 3\n0 000 1\n",
-    )
+    back(rt, "one strip to itself", TO_ITSELF, b"1 111 3\n0 000 1\n")
 }
 
 // To text: the list, 19, 22, 25, then 31.
@@ -1018,98 +970,79 @@ fn texts_refused(rt: &impl Print) -> io::Result<()> {
         rt,
         "P1, list cut",
         b"\x01\x00\x02\x00\x07\x02\x00\x01\x02\x03\x00\x04\x00\x01\x00\x01\x04\x00\x04\x00\x02\x01\x03\x05\x00\x01",
-        b"\x11\x00\x02\x00\x07\x12\x00\x02\x00\x02\x13\x00\x04\x01\x03\x03\x01\x14\x00\x04\x00\x00\x00\x02",
+        P1_SHAPE,
     )?;
-    text_p1(
+    text(
         rt,
         "P1, an angle of 5",
+        P1,
         b"\x11\x00\x02\x00\x07\x12\x00\x02\x00\x02\x13\x00\x04\x05\x03\x03\x01\x14\x00\x04\x00\x00\x00\x02",
     )?;
-    text_p1(
+    text(
         rt,
         "P1, total 3",
+        P1,
         b"\x11\x00\x02\x00\x07\x12\x00\x02\x00\x03\x13\x00\x04\x01\x03\x03\x01\x14\x00\x04\x00\x00\x00\x02",
     )?;
     text(
         rt,
         "P1, limits 2 1",
         b"\x01\x00\x02\x00\x07\x02\x00\x01\x02\x03\x00\x04\x00\x01\x00\x01\x04\x00\x04\x00\x02\x01\x03\x05\x00\x01\x01\x07\x00\x02\x02\x01",
-        b"\x11\x00\x02\x00\x07\x12\x00\x02\x00\x02\x13\x00\x04\x01\x03\x03\x01\x14\x00\x04\x00\x00\x00\x02",
+        P1_SHAPE,
     )?;
-    text_p1(
-        rt,
-        "P1, strip 0 both ways",
-        b"\x11\x00\x02\x00\x07\x12\x00\x02\x00\x04\x13\x00\x04\x01\x03\x03\x01\x14\x00\x04\x01\x01\x00\x02",
-    )?;
+    text(rt, "P1, strip 0 both ways", P1, P1_BOTH_WAYS)?;
     text(
         rt,
         "P1, strip 0 both ways, limits 1 2",
         b"\x01\x00\x02\x00\x07\x02\x00\x01\x02\x03\x00\x04\x00\x01\x00\x01\x04\x00\x04\x00\x02\x01\x03\x05\x00\x01\x01\x07\x00\x02\x01\x02",
-        b"\x11\x00\x02\x00\x07\x12\x00\x02\x00\x04\x13\x00\x04\x01\x03\x03\x01\x14\x00\x04\x01\x01\x00\x02",
+        P1_BOTH_WAYS,
     )
 }
 
 // Back: the list, then 30, 31, 32.
 fn lines_refused(rt: &impl Print) -> io::Result<()> {
+    back(rt, "P8, no text", P8, b"")?;
+    back(rt, "no text", P1, b"")?;
+    back(rt, "last line not ended", P1, b"1 - 3 2 11 3\n0 - 1 3 00 1")?;
+    back(rt, "leading zero", P1, b"01 - 3 2 11 3\n0 - 1 3 00 1\n")?;
+    back(rt, "both digits", P1, b"1 - 3 2 10 3\n0 - 1 3 10 1\n")?;
+    back(rt, "both digits, then no angle", P1, b"1 - 3 2 10 3\n0 -\n")?;
+    back(rt, "inner face first", P1, b"0 - 1 3 00 1\n1 - 3 2 11 3\n")?;
+    back(rt, "from dart 2", P1, b"2 11 3 1 - 3\n0 - 1 3 00 1\n")?;
+    back(rt, "dart 257", P1, b"257 - 3 2 11 3\n0 - 1 3 00 1\n")?;
     back(
         rt,
-        "P8, no text",
-        b"\x01\x00\x02\x00\x07\x02\x00\x01\x02\x03\x00\x06\x00\x01\x00\x01\x00\x01\x04\x00\x06\x00\x02\x04\x01\x03\x05\x05\x00\x01\x01",
-        b"",
-    )?;
-    back_p1(rt, "no text", b"")?;
-    back_p1(rt, "last line not ended", b"1 - 3 2 11 3\n0 - 1 3 00 1")?;
-    back_p1(rt, "leading zero", b"01 - 3 2 11 3\n0 - 1 3 00 1\n")?;
-    back_p1(rt, "both digits", b"1 - 3 2 10 3\n0 - 1 3 10 1\n")?;
-    back_p1(rt, "both digits, then no angle", b"1 - 3 2 10 3\n0 -\n")?;
-    back_p1(rt, "inner face first", b"0 - 1 3 00 1\n1 - 3 2 11 3\n")?;
-    back_p1(rt, "from dart 2", b"2 11 3 1 - 3\n0 - 1 3 00 1\n")?;
-    back_p1(rt, "dart 257", b"257 - 3 2 11 3\n0 - 1 3 00 1\n")?;
-    back_p1(rt, "words that disagree", b"1 - 3 2 1 3\n0 - 1 3 00 1\n")
+        "words that disagree",
+        P1,
+        b"1 - 3 2 1 3\n0 - 1 3 00 1\n",
+    )
 }
 
 // Back: 20, 21, 25, and never 24.
 fn counts_refused(rt: &impl Print) -> io::Result<()> {
-    back_p1(rt, "angles at post 0", b"1 - 4 2 11 3\n0 - 1 3 00 1\n")?;
-    back_p1(rt, "one bend", b"1 - 3 2 1 3\n0 - 1 3 0 1\n")?;
+    back(rt, "angles at post 0", P1, b"1 - 4 2 11 3\n0 - 1 3 00 1\n")?;
+    back(rt, "one bend", P1, b"1 - 3 2 1 3\n0 - 1 3 0 1\n")?;
     back(
         rt,
         "P1, limits 2 1",
         b"\x01\x00\x02\x00\x07\x02\x00\x01\x02\x03\x00\x04\x00\x01\x00\x01\x04\x00\x04\x00\x02\x01\x03\x05\x00\x01\x01\x07\x00\x02\x02\x01",
-        b"1 - 3 2 11 3\n0 - 1 3 00 1\n",
+        P1_TEXT,
     )?;
-    back(
-        rt,
-        "P1, limits 1 0, no shape",
-        b"\x01\x00\x02\x00\x07\x02\x00\x01\x02\x03\x00\x04\x00\x01\x00\x01\x04\x00\x04\x00\x02\x01\x03\x05\x00\x01\x01\x07\x00\x02\x01\x00",
-        b"1 - 3 2 11 3\n0 - 1 3 00 1\n",
-    )
+    back(rt, "P1, limits 1 0, no shape", P1_LIMITS_1_0, P1_TEXT)
 }
 
 // To text: memory one byte short, and just enough; 31 before 16.
 fn text_memory(rt: &impl Print) -> io::Result<()> {
     let mut short = [0xeeu8; 25];
-    text_into(
-        rt,
-        "P1 in 25",
-        b"\x01\x00\x02\x00\x07\x02\x00\x01\x02\x03\x00\x04\x00\x01\x00\x01\x04\x00\x04\x00\x02\x01\x03\x05\x00\x01\x01",
-        b"\x11\x00\x02\x00\x07\x12\x00\x02\x00\x02\x13\x00\x04\x01\x03\x03\x01\x14\x00\x04\x00\x00\x00\x02",
-        &mut short,
-    )?;
+    text_into(rt, "P1 in 25", P1, P1_SHAPE, &mut short)?;
     let mut enough = [0xeeu8; 26];
-    text_into(
-        rt,
-        "P1 in 26",
-        b"\x01\x00\x02\x00\x07\x02\x00\x01\x02\x03\x00\x04\x00\x01\x00\x01\x04\x00\x04\x00\x02\x01\x03\x05\x00\x01\x01",
-        b"\x11\x00\x02\x00\x07\x12\x00\x02\x00\x02\x13\x00\x04\x01\x03\x03\x01\x14\x00\x04\x00\x00\x00\x02",
-        &mut enough,
-    )?;
+    text_into(rt, "P1 in 26", P1, P1_SHAPE, &mut enough)?;
     let mut none = [0xeeu8; 0];
     text_into(
         rt,
         "P1, strip 0 both ways, in 0",
-        b"\x01\x00\x02\x00\x07\x02\x00\x01\x02\x03\x00\x04\x00\x01\x00\x01\x04\x00\x04\x00\x02\x01\x03\x05\x00\x01\x01",
-        b"\x11\x00\x02\x00\x07\x12\x00\x02\x00\x04\x13\x00\x04\x01\x03\x03\x01\x14\x00\x04\x01\x01\x00\x02",
+        P1,
+        P1_BOTH_WAYS,
         &mut none,
     )
 }
@@ -1117,21 +1050,9 @@ fn text_memory(rt: &impl Print) -> io::Result<()> {
 // Back: memory one byte short, and just enough.
 fn back_memory(rt: &impl Print) -> io::Result<()> {
     let mut less = [0xeeu8; 23];
-    back_into(
-        rt,
-        "P1 in 23",
-        b"\x01\x00\x02\x00\x07\x02\x00\x01\x02\x03\x00\x04\x00\x01\x00\x01\x04\x00\x04\x00\x02\x01\x03\x05\x00\x01\x01",
-        b"1 - 3 2 11 3\n0 - 1 3 00 1\n",
-        &mut less,
-    )?;
+    back_into(rt, "P1 in 23", P1, P1_TEXT, &mut less)?;
     let mut just = [0xeeu8; 24];
-    back_into(
-        rt,
-        "P1 in 24",
-        b"\x01\x00\x02\x00\x07\x02\x00\x01\x02\x03\x00\x04\x00\x01\x00\x01\x04\x00\x04\x00\x02\x01\x03\x05\x00\x01\x01",
-        b"1 - 3 2 11 3\n0 - 1 3 00 1\n",
-        &mut just,
-    )
+    back_into(rt, "P1 in 24", P1, P1_TEXT, &mut just)
 }
 
 fn main(rt: HostRuntime) -> io::Result<()> {

@@ -1,4 +1,5 @@
--- An accepted text, back and to text: its entries are those of the plate with the words and angles that it gives, and its words are those that its counts give. Assumes nothing.
+-- An accepted text, back and to text: its entries are those of the plate with the words and angles that it gives,
+-- and its words are those that its counts give. Assumes nothing.
 use mathlib.Core.Path.{◌≡◌, refl, sym, ap, subst, ◌∙◌}
 use mathlib.Core.Bool.{Bool, true, false, ◌&&◌}
 use mathlib.Core.List.{List, []}

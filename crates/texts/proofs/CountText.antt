@@ -1,4 +1,5 @@
--- The words that counts give: one has both digits exactly where some strip bends both ways; where none does, the text of the counts is that of their shape, and is as long as the entries of all darts. Assumes nothing.
+-- The words that counts give: one has both digits exactly where some strip bends both ways;
+-- where none does, the text of the counts is that of their shape, and is as long as the entries of all darts. Assumes nothing.
 use mathlib.Core.Path.{◌≡◌, refl, sym, ap, subst, ◌∙◌}
 use mathlib.Core.Bool.{Bool, true, false}
 use mathlib.Core.List.{List, []}

@@ -1,4 +1,5 @@
--- Digits without leading zeros are those of the number that they stand for: their last one is the number's, and the others are those of its tenth. Assumes nothing.
+-- Digits without leading zeros are those of the number that they stand for: their last one is the number's,
+-- and the others are those of its tenth. Assumes nothing.
 use mathlib.Core.Path.{◌≡◌, sym, ap, subst, ◌∙◌}
 use mathlib.Core.List.{List, [], ◌∷◌, ◌++◌}
 use Prim.Native.Nat.{ℕ, zero, suc, ◌+◌, ◌-◌, ◌*◌, ◌/◌, ◌≤◌, ◌<◌}

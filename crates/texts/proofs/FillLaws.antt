@@ -175,12 +175,12 @@ module _ {plan es : List Entry} (x : Entry) {e : Held} {left : Option (List Entr
     pub other_end : e.dart ≡ d → (e.last ≡ t.last → ⊥) → ReadSoFar plan (es ++ (x ∷ [])) None c
     other_end q n = nothing_left (by_test ∙ (λ i. pick (eq-eqb x.dart t.dart (omega (arith, dart_is, d-is, q)) i && other_ends x.ends t.last (λ z. n (last_is ∙ z)) i) (Some (laid rest)) None))
 
-    pub taken_planned : e.dart ≡ d → e.last ≡ t.last → ReadSoFar plan (es ++ (x ∷ [])) (Some (laid rest)) (record { angles = set c.angles d e.angle; rights = set c.rights d e.right; lefts = set c.lefts d e.left })
+    pub taken_planned : e.dart ≡ d → e.last ≡ t.last → ReadSoFar plan (es ++ (x ∷ [])) (Some (laid rest)) (record { angles = set c.angles d e.angle; rights = set c.rights d e.word.right; lefts = set c.lefts d e.word.left })
     taken_planned q z =
         let same : x.dart ≡ t.dart = omega (arith, dart_is, d-is, q) in
         record {
           left_is = sym (by_test ∙ ap (λ (b : Bool). pick b (Some (laid rest)) None) (and_both (eqb x.dart t.dart) (same_b x.ends t.last) (eq-eqb x.dart t.dart same) (same_ends x.ends t.last (sym last_is ∙ z))));
-          tables = λ xs k. tables_more x d e.angle e.right e.left (filled.tables (laid (t ∷ rest)) next) new (d-is ∙ sym same) below (ap (λ (h : Held). h.angle) is) (ap (λ (h : Held). h.right) is) (ap (λ (h : Held). h.left) is);
+          tables = λ xs k. tables_more x d e.angle e.word.right e.word.left (filled.tables (laid (t ∷ rest)) next) new (d-is ∙ sym same) below (ap (λ (h : Held). h.angle) is) (ap (λ (h : Held). h.word.right) is) (ap (λ (h : Held). h.word.left) is);
         }
       where
         new : is_in x.dart (darts_of es) ≡ false

@@ -85,7 +85,7 @@ module _ {plan : List Entry} {t : List ℕ} {c : Counted} {left : Option (List E
       pub taken : {left' : Option (List Entry)} {c' : Counted} → ((plan es : List Entry) (x : Entry) → IsPlan plan → e ≡ held x → ReadSoFar plan es left c → ReadSoFar plan (es ++ (x ∷ [])) left' c') → IsPlan plan → ReadSoFar plan (h.done ++ (entry_in s ∷ [])) left' c'
       taken more once = more plan h.done (entry_in s) once (sym e-is) h.filled
 
-      pub parsing_more : {left' : Option (List Entry)} {c' : Counted} {both mixed' : Bool} → ReadSoFar plan (h.done ++ (entry_in s ∷ [])) left' c' → both ≡ (ltb 0 e.right && ltb 0 e.left) → mixed' ≡ (mixed || both) → Parsing plan t c' left' mixed' e.last rest
+      pub parsing_more : {left' : Option (List Entry)} {c' : Counted} {both mixed' : Bool} → ReadSoFar plan (h.done ++ (entry_in s ∷ [])) left' c' → both ≡ (ltb 0 e.word.right && ltb 0 e.word.left) → mixed' ≡ (mixed || both) → Parsing plan t c' left' mixed' e.last rest
       parsing_more filled both-is mixed-is = record {
         done = h.done ++ (entry_in s ∷ []);
         fuel = opened.0;
@@ -94,7 +94,7 @@ module _ {plan : List Entry} {t : List ℕ} {c : Counted} {left : Option (List E
             ∙ sym (ap (λ (b : Bool). b && form_from opened.0 (entry_in s).ends (behind s)) ok) ∙ step_form;
         entries = append_assoc h.done (entry_in s ∷ []) (entries_from opened.0 rest) ∙ ap (λ (x : List ℕ). h.done ++ (entry_in s ∷ entries_from opened.0 x)) (sym rest_is) ∙ step_entries;
         enough = omega (arith, h.enough, opened.1, rest_shorter);
-        mixed_is = mixed-is ∙ (λ i. h.mixed_is i || both-is i) ∙ ap (λ (x : Held). some_mixed h.done || (ltb 0 x.right && ltb 0 x.left)) (sym e-is) ∙ sym (mixed_more h.done (entry_in s));
+        mixed_is = mixed-is ∙ (λ i. h.mixed_is i || both-is i) ∙ ap (λ (x : Held). some_mixed h.done || (ltb 0 x.word.right && ltb 0 x.word.left)) (sym e-is) ∙ sym (mixed_more h.done (entry_in s));
         filled = filled;
       }
 

@@ -26,7 +26,7 @@ use Rattle.plates.proofs.ListingText.{decimal_one_long, decimal_more_long, byte_
 use Rattle.plates.specs.Text.{Entry, entry, bend_digits, word_text, angle_text, entry_text, text_of}
 use Rattle.plates.specs.Lines.{darts_of}
 use Rattle.texts.specs.Plan.{laid}
-use Rattle.texts.specs.Prints.{count_word, count_entries, entry_of, entry_long, long_up_to, EntryRoom, PrintRoom}
+use Rattle.texts.specs.Prints.{count_word, count_entries, entry_of, bends_of, entry_long, long_up_to, EntryRoom, PrintRoom}
 use Rattle.texts.specs.declared.planning.Turn.{Turn}
 use Rattle.texts.specs.declared.entries.Entry.{Entry as Held}
 use Rattle.texts.proofs.LaidLaws.{laid_append}
@@ -186,7 +186,7 @@ module _ {a r : List ℕ} {ts : List Turn} {out₀ out : List ℕ} {at i : ℕ} 
 
   -- the entry of turn i, as the code holds it
   abbrev turn_entry : Held
-  turn_entry = record { dart = turn.dart; right = get_or r turn.dart 0; left = get_or r (twin turn.dart) 0; angle = get_or a turn.dart 0; last = turn.last }
+  turn_entry = record { dart = turn.dart; word = bends_of r turn.dart; angle = get_or a turn.dart 0; last = turn.last }
 
   pub entry_room : EntryRoom turn_entry at (length out)
   entry_room = record {

@@ -20,7 +20,8 @@ use Rattle.plates.specs.Plates.{pick}
 use Rattle.plates.specs.Shapes.{rights, lefts}
 use Rattle.plates.specs.Listing.{number_of}
 use Rattle.plates.specs.Grammar.{is_bend, run_of, number_long, number_ok, bends, word_long, word_ok, word_in, angle_ok, from_word, from_angle, entry_ok, entry_in, behind}
-use Rattle.texts.specs.Parses.{held, capped, space_read, number_read, word_read, angle_read, entry_read}
+use Rattle.texts.specs.Parses.{held, bends_in, capped, space_read, number_read, word_read, angle_read, entry_read}
+use Rattle.texts.specs.declared.entries.Word.{Word}
 use Rattle.texts.proofs.Runs.{run_most, stands_at}
 use Rattle.texts.proofs.OneWay.{word-long}
 use Rattle.texts.proofs.EntryRead.{bends_long}
@@ -82,23 +83,23 @@ number_got s {n} {value} {d} {u} {rest} n-is d-is long test u-is space value-is 
     ∙ ap (λ (k : ℕ). Some (capped (number_of 0 (take k s)), drop (suc k) s)) (sym n-is)
     ∙ (λ i. Some (sym (value-is ∙ ap (λ (l : List ℕ). capped (number_of 0 l)) d-is) i, sym rest-is i))
 
-pub word_got : (s : List ℕ) {run long right left : ℕ} {rest : List ℕ} → run ≡ run_of is_bend s → long ≡ word_long s → 0 < long → long ≤ 255 → space_read (drop long s) ≡ Some rest → right ≡ rights (bends (take run s)) → left ≡ run - right → word_read s ≡ Some (right, left, rest)
+pub word_got : (s : List ℕ) {run long right left : ℕ} {rest : List ℕ} → run ≡ run_of is_bend s → long ≡ word_long s → 0 < long → long ≤ 255 → space_read (drop long s) ≡ Some rest → right ≡ rights (bends (take run s)) → left ≡ run - right → word_read s ≡ Some (record { right = right; left = left }, rest)
 word_got s {run} {long} {right} {left} {rest} run-is long-is some few space right-is left-is =
     let (behind-is, rest-is) = space_behind s long space in
     let ok : word_ok s ≡ true = ap (λ (k : ℕ). ltb 0 k && (leb k 255 && eqb (get_or s k 0) 32)) (sym long-is) ∙ and_both (ltb 0 long) _ (lt-ltb 0 long some) (and_both (leb long 255) _ (le-leb long 255 few) behind-is) in
     let right-of : right ≡ rights (word_in s) = right-is ∙ ap (λ (k : ℕ). rights (bends (take k s))) run-is in
     let left-of : left ≡ lefts (word_in s) = omega (arith, left-is, run-is, right-of, word-long (word_in s), bends_long (take (run_of is_bend s) s), length-take-le (run_of is_bend s) s (run_most is_bend s)) in
-    ap (λ (b : Bool). pick b (Some (rights (word_in s), lefts (word_in s), drop (suc (word_long s)) s)) None) ok
-    ∙ ap (λ (k : ℕ). Some (rights (word_in s), lefts (word_in s), drop (suc k) s)) (sym long-is)
-    ∙ (λ i. Some (sym right-of i, sym left-of i, sym rest-is i))
+    ap (λ (b : Bool). pick b (Some (bends_in (word_in s), drop (suc (word_long s)) s)) None) ok
+    ∙ ap (λ (k : ℕ). Some (bends_in (word_in s), drop (suc k) s)) (sym long-is)
+    ∙ (λ i. Some (record { right = sym right-of i; left = sym left-of i }, sym rest-is i))
 
 -- no angle, and so no entry
-module _ (s : List ℕ) {dart right left : ℕ} {u v : List ℕ} (number : number_read s ≡ Some (dart, u)) (word : word_read u ≡ Some (right, left, v)) where
+module _ (s : List ℕ) {dart : ℕ} {bent : Word} {u v : List ℕ} (number : number_read s ≡ Some (dart, u)) (word : word_read u ≡ Some (bent, v)) where
   from_word_is : u ≡ from_word s
   from_word_is = ap (λ (p : ℕ × List ℕ). p.1) (sym (picked (number_ok s) number).1)
 
   from_angle_is : v ≡ from_angle s
-  from_angle_is = ap (λ (p : ℕ × ℕ × List ℕ). p.2) (sym (picked (word_ok u) word).1) ∙ ap (λ (x : List ℕ). drop (suc (word_long x)) x) from_word_is
+  from_angle_is = ap (λ (p : Word × List ℕ). p.1) (sym (picked (word_ok u) word).1) ∙ ap (λ (x : List ℕ). drop (suc (word_long x)) x) from_word_is
 
   pub no_angle : angle_read v ≡ None → entry_read s ≡ None
   no_angle e =

@@ -1,4 +1,5 @@
--- No text has more than 66962 bytes: at most 262 for each of 256 darts, less two for each of the ten numbers of one digit and one for each of the ninety of two. Assumes nothing.
+-- No text has more than 66962 bytes: at most 262 for each of 256 darts, less two for each of the ten numbers of one digit
+-- and one for each of the ninety of two. Assumes nothing.
 use mathlib.Core.Path.{◌≡◌, refl, ap, ◌∙◌}
 use mathlib.Core.Bool.{Bool, true, false}
 use mathlib.Core.List.{List}

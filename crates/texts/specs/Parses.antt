@@ -13,6 +13,7 @@ use Rattle.plates.specs.Grammar.{number_long, number_ok, word_long, word_ok, wor
 use Rattle.plates.specs.Lines.{some_mixed, same_faces, word_of, angle_of, darts_of}
 use Rattle.texts.specs.Plan.{laid}
 use Rattle.texts.specs.declared.planning.Turn.{Turn}
+use Rattle.texts.specs.declared.entries.Word.{Word}
 use Rattle.texts.specs.declared.entries.Entry.{Entry as Held}
 use Rattle.texts.specs.declared.parsing.Counted.{Counted}
 
@@ -27,15 +28,19 @@ space_read s = pick (eqb (get_or s 0 0) 32) (Some (drop 1 s)) None
 abbrev pub number_read : List ℕ → Option (ℕ × List ℕ)
 number_read s = pick (number_ok s) (Some (capped (number_of 0 (take (number_long s) s)), from_word s)) None
 
-abbrev pub word_read : List ℕ → Option (ℕ × ℕ × List ℕ)
-word_read s = pick (word_ok s) (Some (rights (word_in s), lefts (word_in s), drop (suc (word_long s)) s)) None
+-- a word as the code holds it
+abbrev pub bends_in : List Bool → Word
+bends_in w = record { right = rights w; left = lefts w }
+
+abbrev pub word_read : List ℕ → Option (Word × List ℕ)
+word_read s = pick (word_ok s) (Some (bends_in (word_in s), drop (suc (word_long s)) s)) None
 
 abbrev pub angle_read : List ℕ → Option (ℕ × Bool × List ℕ)
 angle_read s = pick (angle_ok s) (Some (get_or s 0 0 - 48, eqb (get_or s 1 0) 10, drop 2 s)) None
 
 -- an entry as the code holds it
 abbrev pub held : Entry → Held
-held x = record { dart = capped x.dart; right = rights x.word; left = lefts x.word; angle = x.angle; last = x.ends }
+held x = record { dart = capped x.dart; word = bends_in x.word; angle = x.angle; last = x.ends }
 
 abbrev pub entry_read : List ℕ → Option (Held × List ℕ)
 entry_read s = pick (entry_ok s) (Some (held (entry_in s), behind s)) None

@@ -7,6 +7,7 @@ use Rattle.plates.specs.Text.{Entry, entry, word_text, entry_text, text_of}
 use Rattle.plates.specs.Lines.{both_ways}
 use Rattle.texts.specs.Plan.{refill, laid}
 use Rattle.texts.specs.declared.planning.Turn.{Turn}
+use Rattle.texts.specs.declared.entries.Word.{Word}
 use Rattle.texts.specs.declared.entries.Entry.{Entry as Held}
 
 -- the word of a dart, from the right bends of all darts
@@ -15,6 +16,10 @@ count_word r d = even_word (get_or r d 0) (get_or r (twin d) 0)
 
 abbrev pub count_entries : List ℕ → List ℕ → List Entry → List Entry
 count_entries a r xs = refill (count_word r) (λ d. get_or a d 0) xs
+
+-- the same, as the code holds it
+abbrev pub bends_of : List ℕ → ℕ → Word
+bends_of r d = record { right = get_or r d 0; left = get_or r (twin d) 0 }
 
 -- how long an entry is, and those of the first n darts together
 abbrev pub entry_long : List ℕ → ℕ → ℕ
@@ -31,11 +36,11 @@ pub record Straight (a r : List ℕ) : Type 0 where
 
 -- an entry of the code, which has a word of one digit
 abbrev pub entry_of : Held → Entry
-entry_of e = entry e.dart (even_word e.right e.left) e.angle e.last
+entry_of e = entry e.dart (even_word e.word.right e.word.left) e.angle e.last
 
 -- one entry, and room for it from a place on
 pub record EntryRoom (e : Held) (at room : ℕ) : Type 0 where
-  pub one_way : min e.right e.left ≡ 0
+  pub one_way : min e.word.right e.word.left ≡ 0
   pub angle_most : e.angle ≤ 4
   pub enough : at + length (entry_text (entry_of e)) ≤ room
 

@@ -12,7 +12,7 @@ use shapes::rates::limits_ok;
 
 /// 32 for words that do not agree across a strip, then 20 and 21, then 25.
 #[tactic(auto, using(crate::proofs::FaceLeads::dart_bounds))]
-pub fn counted_fault(list: &PlateList, read: &Counted) -> Result<(), Refusal>
+pub fn check_counted(list: &PlateList, read: &Counted) -> Result<(), Refusal>
     ensures { fault_of result ≡ counted_fault (plate_of list.now.bytes.now) (limits_of list.now.bytes.now) list.now.plate.darts read.now.angles read.now.rights read.now.lefts }
 {
     let darts = list.plate.darts;

@@ -5,7 +5,7 @@ ghost use Rattle.plates.specs.Answers.{listed_of, shaped_of};
 ghost use Rattle.plates.specs.Texts.{WriteSays, ReadSays};
 
 use crate::counting::{both_ways, print_counts};
-use crate::judging::counted_fault;
+use crate::judging::check_counted;
 use crate::parsing::parse;
 use crate::planning::plan_of;
 use plates::encoding::Written;
@@ -46,6 +46,6 @@ pub fn read_text(list: &[u8], text: &[u8], out: &mut [u8]) -> Result<Written, Re
     let list = read_list(list)?;
     let plan = plan_of(list.plate);
     let read = parse(text, plan.turns())?;
-    counted_fault(&list, &read)?;
+    check_counted(&list, &read)?;
     list.write_file(read.counts(list.plate.darts), out)
 }

@@ -37,7 +37,8 @@ impl Counted {
         self.rights[t] == self.lefts[d] && self.lefts[t] == self.rights[d]
     }
 
-    /// What the text says of the first `darts` darts. Only the form is that of `BestShape::counts`: each lends arrays of its own.
+    /// What the text says of the first `darts` darts. `BestShape` has a method like it: a struct of the two arrays for both would be a field more
+    /// in each definition.
     pub fn counts(&self, darts: usize) -> Counts<'_>
         requires { (darts % 2 ≡ 0) × (darts ≤ 256) }
         ensures given { (result.angles.now ≡ take darts self.now.angles) × (result.rights.now ≡ take darts self.now.rights) }
@@ -64,8 +65,8 @@ fn take_entry<'a>(
         return None;
     }
     counted.angles[d] = entry.angle;
-    counted.rights[d] = entry.right;
-    counted.lefts[d] = entry.left;
+    counted.rights[d] = entry.word.right;
+    counted.lefts[d] = entry.word.left;
     Some(rest)
 }
 
@@ -83,10 +84,10 @@ pub fn parse(text: &[u8], plan: &[Turn]) -> Result<Counted, Refusal>
     let mut mixed = false;
     let mut closed = true;
     let mut rest = text;
-    // A while: each entry is as long as it is, and what is behind it is the rest.
+    // A while: each entry says by itself how long it is, so no iterator gives them.
     while !rest.is_empty() {
         let (entry, behind) = read_entry(rest).ok_or(Refusal::TextForm)?;
-        mixed |= entry.is_mixed();
+        mixed |= entry.word.is_mixed();
         left = take_entry(left, entry, &mut counted);
         closed = entry.last;
         rest = behind;

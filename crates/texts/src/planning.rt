@@ -14,7 +14,7 @@ pub struct Turn {
     pub last: bool,
 }
 
-/// The turns laid so far. An array with its length: the library allocates nothing.
+/// The turns laid so far. By hand: the library stands on std alone, which has no list of fixed capacity.
 #[derive(Drop)]
 pub struct Laid {
     turns: [Turn; 256],
@@ -52,7 +52,7 @@ impl Laid {
         self.count += 1;
     }
 
-    /// The turns, as a slice. Only the form is that of `Replay::list`.
+    /// The turns, as a slice.
     pub fn turns(&self) -> &[Turn]
         ensures { result.now ≡ self.now }
     {
@@ -60,7 +60,7 @@ impl Laid {
     }
 }
 
-// Where a face's number stands first: at its smallest dart.
+// Where a face's number stands first: at its smallest dart. The length where it stands nowhere, as the definition has it.
 fn lead_of(face: &[u8], number: usize) -> usize
     ensures { result ≡ place_of number face.now }
 {
@@ -79,7 +79,7 @@ fn lay_face(plate: &Plate, start: usize, plan: &mut Laid)
     loop {
         let after = usize::from(plate.next[dart]);
         let last = after == start;
-        // `as`: a dart is below 256, so `u8::try_from` would ask for an error that there is not.
+        // `as`: a dart is below 256, and `try_from` would test it again.
         plan.push(Turn {
             dart: dart as u8,
             last,

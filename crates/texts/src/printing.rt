@@ -7,9 +7,9 @@ ghost use Rattle.plates.specs.Shapes.{even_word};
 ghost use Rattle.plates.specs.Listing.{decimal};
 ghost use Rattle.plates.specs.Text.{word_text, entry_text, text_of};
 ghost use Rattle.texts.specs.Plan.{laid};
-ghost use Rattle.texts.specs.Prints.{count_entries, entry_of, entry_long, long_up_to, EntryRoom, PrintRoom};
+ghost use Rattle.texts.specs.Prints.{count_entries, entry_of, bends_of, entry_long, long_up_to, EntryRoom, PrintRoom};
 
-use crate::entries::Entry;
+use crate::entries::{Entry, Word};
 use crate::planning::Turn;
 use embedding::twin_of;
 use plates::listing::write_decimal;
@@ -25,13 +25,24 @@ fn digits_long(n: usize) -> usize
     n.checked_ilog10().unwrap_or(0) as usize + 1
 }
 
-// How long a word of right and left bends is: - is one byte.
+// How long a word of one digit is: - is one byte.
 #[tactic(auto, using(crate::proofs::PrintLaws::word_counted))]
-fn even_word_long(right: u8, left: u8) -> usize
-    ensures long { result ≡ length (word_text (even_word right left)) }
+fn even_word_long(word: Word) -> usize
+    ensures long { result ≡ length (word_text (even_word word.right word.left)) }
     ensures most { result ≤ 510 }
 {
-    (usize::from(right) + usize::from(left)).max(1)
+    (usize::from(word.right) + usize::from(word.left)).max(1)
+}
+
+// The word of a dart.
+fn word_of(counts: Counts, d: usize) -> Word
+    requires { d < length counts.rights.now }
+    ensures { result ≡ bends_of counts.entry.rights.now d }
+{
+    Word {
+        right: counts.rights[d],
+        left: counts.rights[twin_of(d)],
+    }
 }
 
 // How long the entry of a dart is.
@@ -40,8 +51,7 @@ fn entry_long(counts: Counts, d: usize) -> usize
     ensures long { result ≡ entry_long counts.entry.rights.now d }
     ensures most { result ≤ 600 }
 {
-    let word = even_word_long(counts.rights[d], counts.rights[twin_of(d)]);
-    digits_long(d) + word + 4
+    digits_long(d) + even_word_long(word_of(counts, d)) + 4
 }
 
 /// How long the entries of all darts are.
@@ -55,23 +65,23 @@ pub fn text_long(counts: Counts) -> usize
 
 // The byte that a word is a run of, and how often: - is one byte.
 #[tactic(auto, using(crate::proofs::PrintLaws::left_word, crate::proofs::PrintLaws::right_word))]
-fn word_bytes(right: u8, left: u8) -> (u8, usize)
-    requires { min right left ≡ 0 }
-    ensures { word_text (even_word right left) ≡ replicate result.1 result.0 }
+fn word_bytes(word: Word) -> (u8, usize)
+    requires { min word.right word.left ≡ 0 }
+    ensures { word_text (even_word word.right word.left) ≡ replicate result.1 result.0 }
 {
-    match (right, left) {
+    match (word.right, word.left) {
         (0, 0) => (b'-', 1),
-        (0, _) => (b'1', usize::from(left)),
-        _ => (b'0', usize::from(right)),
+        (0, left) => (b'1', usize::from(left)),
+        (right, _) => (b'0', usize::from(right)),
     }
 }
 
 // Writes a word of right bends or of left bends, and gives the place behind it.
-fn write_word(out: &mut [u8], at: usize, right: u8, left: u8) -> usize
-    requires { (min right left ≡ 0) × (at + length (word_text (even_word right left)) ≤ length out.old) }
-    ensures { Written at (word_text (even_word right left)) out.old out.new result }
+fn write_word(out: &mut [u8], at: usize, word: Word) -> usize
+    requires { (min word.right word.left ≡ 0) × (at + length (word_text (even_word word.right word.left)) ≤ length out.old) }
+    ensures { Written at (word_text (even_word word.right word.left)) out.old out.new result }
 {
-    let (byte, count) = word_bytes(right, left);
+    let (byte, count) = word_bytes(word);
     out[at..at + count].fill(byte);
     at + count
 }
@@ -83,7 +93,7 @@ fn write_entry(out: &mut [u8], at: usize, entry: Entry) -> usize
 {
     let second = write_decimal(entry.dart, out, at);
     out[second] = b' ';
-    let third = write_word(out, second + 1, entry.right, entry.left);
+    let third = write_word(out, second + 1, entry.word);
     let end = if entry.last { b'\n' } else { b' ' };
     out[third..third + 3].copy_from_slice(&[b' ', b'0' + entry.angle, end]);
     third + 3
@@ -94,15 +104,13 @@ pub fn write_entries(out: &mut [u8], plan: &[Turn], counts: Counts) -> usize
     requires { PrintRoom plan.now counts.angles.now counts.rights.now (length out.old) }
     ensures { Written 0 (text_of (count_entries counts.entry.angles.now counts.entry.rights.now (laid plan.now))) out.old out.new result }
 {
-    let Counts { angles, rights } = counts;
     let mut at = 0;
     for turn in plan {
         let d = usize::from(turn.dart);
         let entry = Entry {
             dart: d,
-            right: rights[d],
-            left: rights[twin_of(d)],
-            angle: angles[d],
+            word: word_of(counts, d),
+            angle: counts.angles[d],
             last: turn.last,
         };
         at = write_entry(out, at, entry);

@@ -6,7 +6,7 @@ ghost use Rattle.plates.specs.Listing.{number_of};
 ghost use Rattle.plates.specs.Grammar.{run_of, bends};
 ghost use Rattle.texts.specs.Parses.{capped, space_read, number_read, word_read, angle_read, entry_read};
 
-use crate::entries::Entry;
+use crate::entries::{Entry, Word};
 
 // How many bytes from the front on are the digits 0 to `top`.
 fn run_long(s: &[u8], top: u8) -> usize
@@ -16,7 +16,8 @@ fn run_long(s: &[u8], top: u8) -> usize
     s.iter().take_while(|b| (b'0'..=top).contains(*b)).count()
 }
 
-// The number that digits stand for, told exactly below 1000.
+// The number that digits stand for, told exactly below 1000. `console::decimal` is of the programs, refuses other bytes and stops at another
+// number; the library does not stand on it.
 fn number_in(digits: &[u8]) -> usize
     ensures { result ≡ capped (number_of 0 digits.now) }
 {
@@ -74,9 +75,9 @@ fn word_long(s: &[u8], digits: usize) -> usize
     }
 }
 
-// The right and left bends of a word of 1 to 255 digits or -, and a space.
-fn read_word(s: &[u8]) -> Option<(u8, u8, &[u8])>
-    ensures { word_read s.now ≡ option_map (λ x. (x.0, x.1, x.2.now)) result }
+// A word of 1 to 255 digits or -, and a space.
+fn read_word(s: &[u8]) -> Option<(Word, &[u8])>
+    ensures { word_read s.now ≡ option_map (λ x. (x.0, x.1.now)) result }
 {
     let digits = &s[..run_long(s, b'1')];
     let long = word_long(s, digits.len());
@@ -85,8 +86,12 @@ fn read_word(s: &[u8]) -> Option<(u8, u8, &[u8])>
     }
     let rest = read_space(&s[long..])?;
     let right = zeros_in(digits);
-    // `as`: both are at most 255, so `u8::try_from` would ask for an error that there is not.
-    Some((right as u8, (digits.len() - right) as u8, rest))
+    // `as`: both are at most 255, and `try_from` would test it again.
+    let word = Word {
+        right: right as u8,
+        left: (digits.len() - right) as u8,
+    };
+    Some((word, rest))
 }
 
 // An angle, 1 to 4, and what ends the entry: whether it is a line feed.
@@ -106,12 +111,11 @@ pub fn read_entry(s: &[u8]) -> Option<(Entry, &[u8])>
     ensures { entry_read s.now ≡ option_map (λ x. (x.0, x.1.now)) result }
 {
     let (dart, rest) = read_number(s)?;
-    let (right, left, rest) = read_word(rest)?;
+    let (word, rest) = read_word(rest)?;
     let (angle, last, rest) = read_angle(rest)?;
     let entry = Entry {
         dart,
-        right,
-        left,
+        word,
         angle,
         last,
     };

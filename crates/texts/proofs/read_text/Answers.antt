@@ -7,9 +7,9 @@ pub returns-in_err-read : goal.returns-in_err-read
 returns-in_err-read c =
     text_refused c.in_ok-list.list c.in_ok-list.ensures.1 c.args.text.now c.args.out.now c.turns.ensures c.plan_of-plan.ensures (search rules) c.in_err-read.ensures.number
 
-pub returns-in_err-counted_fault : goal.returns-in_err-counted_fault
-returns-in_err-counted_fault c =
-    counts_refused c.in_ok-list.list c.in_ok-list.ensures.1 c.args.text.now c.args.out.now c.turns.ensures c.plan_of-plan.ensures c.in_ok-read.ensures.number c.in_ok-read.ensures.tables (search rules) c.in_err-counted_fault.ensures
+pub returns-in_err-check_counted : goal.returns-in_err-check_counted
+returns-in_err-check_counted c =
+    counts_refused c.in_ok-list.list c.in_ok-list.ensures.1 c.args.text.now c.args.out.now c.turns.ensures c.plan_of-plan.ensures c.in_ok-read.ensures.number c.in_ok-read.ensures.tables (search rules) c.in_err-check_counted.ensures
 
 pub write_file-requires : goal.write_file-requires
 write_file-requires c = file_given c.in_ok-list.list c.in_ok-list.ensures.1 c.args.text.now c.args.out.now c.turns.ensures c.plan_of-plan.ensures c.in_ok-read.ensures.number c.in_ok-read.ensures.tables c.counts.ensures.given.0 c.counts.ensures.given.1

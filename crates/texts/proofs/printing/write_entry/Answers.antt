@@ -11,10 +11,10 @@ pub returns : goal.returns
 returns c =
     let e = c.args.entry in
     let pre = c.requires in
-    let size = entry_size e.dart e.right e.left e.angle e.last in
+    let size = entry_size e.dart e.word.right e.word.left e.angle e.last in
     let number = c.write_decimal-second in
     let space = length-set number.new.out number.result 32 in
     let word = c.write_word-third in
     let end-is : c.if-entry.end ≡ pick e.last 10 32 = elim c.if-entry.branch [ then-entry w ↦ w.end-is ∙ ap (λ b. pick b 10 32) (sym w.if-entry.true) | else-entry w ↦ w.end-is ∙ ap (λ b. pick b 10 32) (sym w.if-entry.false) ] in
     let tail : c.copy_from_slice.new.self ≡ angle_text e.angle e.last = c.copy_from_slice.ensures.after ∙ ap (λ (x : ℕ). 32 ∷ ((48 + e.angle) ∷ (x ∷ []))) end-is in
-    entry_parts e.dart e.right e.left e.angle e.last (omega (arith, pre.enough, size)) (omega (arith, pre.enough, size, number.ensures.behind, number.auto.out)) (omega (arith, pre.enough, size, number.ensures.behind, number.auto.out)) number.ensures word.ensures (omega (arith, pre.enough, size, number.ensures.behind, number.auto.out, space, word.ensures.behind, word.auto.out)) (part_written tail (omega arith) (omega arith))
+    entry_parts e.dart e.word.right e.word.left e.angle e.last (omega (arith, pre.enough, size)) (omega (arith, pre.enough, size, number.ensures.behind, number.auto.out)) (omega (arith, pre.enough, size, number.ensures.behind, number.auto.out)) number.ensures word.ensures (omega (arith, pre.enough, size, number.ensures.behind, number.auto.out, space, word.ensures.behind, word.auto.out)) (part_written tail (omega arith) (omega arith))

@@ -7,5 +7,5 @@ use Rattle.texts.proofs.scanning.read_entry.Goals as goal
 
 pub returns-in_err-angle : goal.returns-in_err-angle
 returns-in_err-angle c =
-    let none = no_angle c.args.s.now c.in_ok-dart.ensures c.in_ok-right.ensures c.in_err-angle.ensures in
+    let none = no_angle c.args.s.now c.in_ok-dart.ensures c.in_ok-word.ensures c.in_err-angle.ensures in
     subst (λ r. entry_read c.args.s.now ≡ option_map (λ x. (x.0, x.1.now)) r) (sym c.from_residual-in_err-angle.ensures) none
