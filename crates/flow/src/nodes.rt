@@ -10,7 +10,8 @@ pub struct Node {
 }
 
 // By node: the units that it has left, and those that it lacks.
-// Slices of arrays of fixed size, since nothing is allocated. That they have a place for each node is asked for where a graph is met: no value of this type knows it.
+// Slices of arrays of fixed size, since nothing is allocated.
+// That they have a place for each node is asked for where a graph is met: no value of this type knows it.
 #[derive(Drop)]
 pub struct Units<'a> {
     pub left: &'a mut [u16],

@@ -6,9 +6,10 @@ ghost use Rattle.residual.specs.Arcs.{tails_of, heads_of, lowers_of, tops_of, re
 
 use crate::arcs::Arc;
 
-// The arcs at each node that can move, from the last one back: by node its last arc, by arc the one before it, each one more than its number; and by arc the node that it leads to.
+// The arcs at each node that can move, from the last one back: by node its last arc, by arc the one before it, each one more than its number;
+// and by arc the node that it leads to.
 // 0 is none: one test, `at > from`, ends a walk there and below `from`.
-// Lists, not a list of structs: a walk passes over most arcs by their far ends, which stand in fewer bytes so and are found in fewer instructions.
+// Lists, not a list of structs: of most arcs a walk reads the far end only, and a list of bytes takes less memory and fewer instructions to read.
 #[derive(Clone, Copy)]
 pub struct Links<'a> {
     pub last: &'a [u16],

@@ -36,7 +36,7 @@ pub fn mark_only(source: usize, space: &mut Space<'_>)
 {
     space.dist.fill(UNREACHED);
     space.dist[source] = 0;
-    // With `as`: there are 255 nodes at most, and try_from would test it again.
+    // `as`: there are 255 nodes at most, and `try_from` would test it again.
     space.queue[0] = source as u8;
 }
 

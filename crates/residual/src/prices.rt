@@ -24,6 +24,8 @@ fn short_by(on: bool, cost: u64, near: u64, far: u64) -> u64
 }
 
 // How short of tight arc a is if it leaves the reached nodes and is not tight; u is reached, and a step on, or back, along a begins there.
+// An option beside `Positive`, and 0 for none in the other clauses: the definitions compare numbers, and 0 is above no gap.
+// That cost and potential together fit is asked for here: the search and the push do not need it of a `ResidualGraph`.
 fn slack_at(r: ResidualGraph, dist: &[u8], on: bool, u: usize, a: usize) -> Option<u64>
     requires dist_len { length dist.now ≡ r.graph.nodes }
     requires sums { Sums (lists_of r) }
@@ -39,6 +41,7 @@ fn slack_at(r: ResidualGraph, dist: &[u8], on: bool, u: usize, a: usize) -> Opti
 }
 
 // The lesser of two numbers, of which the first may be missing.
+// A function of its own: it promises `Lesser`, which the library's `min` does not name.
 fn lesser(m: Option<u64>, n: u64) -> Option<u64>
     requires m_positive { Positive m }
     requires n_positive { 0 < n }
@@ -51,8 +54,8 @@ fn lesser(m: Option<u64>, n: u64) -> Option<u64>
     }
 }
 
-// Six parameters, each of another kind: the graph and its marks are read, the walk begins at u by the links of `on`, and `most` is carried through.
 // The lesser of `most` and of what the arcs that steps on, or back, from u lead along are short of tight where they leave the reached nodes.
+// Six parameters, each of another kind: the graph and its marks are read, the walk begins at u by the links of `on`, and `most` is carried through.
 fn gap_by(
     r: ResidualGraph,
     dist: &[u8],

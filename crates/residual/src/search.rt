@@ -9,7 +9,8 @@ use crate::arcs::{is_even, open_end};
 use crate::graph::{Links, ResidualGraph};
 
 // Space to search in, by node: its mark, the arc that leads to it, and a queue.
-// Slices of arrays of fixed size, since nothing is allocated. That they have a place for each node of a graph is asked for where both are met: no value of this type knows the graph.
+// Slices of arrays of fixed size, since nothing is allocated.
+// That they have a place for each node of a graph is asked for where both are met: no value of this type knows the graph.
 #[derive(Drop)]
 pub struct Space<'a> {
     pub dist: &'a mut [u8],
@@ -42,8 +43,9 @@ fn node_at(space: &Space<'_>, i: usize) -> usize
     usize::from(space.queue[i])
 }
 
-// Eight parameters: what is read, what is written, the way of the steps with its links, and the place that the walk has come to.
-// Marks each new node that a step on, or back, from u along an arc from `from` on leads to, notes the arc and puts the node into the queue, until one is wanted; how many nodes then stand there.
+// Marks each new node that a step on, or back, from u along an arc from `from` on leads to, notes the arc and puts the node into the queue,
+// until one is wanted; how many nodes then stand there.
+// Eight parameters: a struct of the walk would be made and taken apart for each node.
 fn fan(
     r: ResidualGraph,
     from: usize,
@@ -68,7 +70,7 @@ fn fan(
     while at > from {
         let a = at - 1;
         if let Some(v) = reached_by(r, space, on, u, a) {
-            // With `as`: there are 255 nodes and 1024 arcs at most, and try_from would test it again.
+            // `as`: there are 255 nodes and 1024 arcs at most, and `try_from` would test it again.
             space.dist[v] = next as u8;
             space.via[v] = a as u16;
             space.queue[next] = v as u8;
@@ -82,8 +84,8 @@ fn fan(
     next
 }
 
-// Six parameters: those of `fan`, but for the way of the steps.
 // Marks each new node that an arc from `from` on leads to from u, until one is wanted; how many nodes then stand in the queue.
+// Six parameters, as `fan`.
 fn visit(
     r: ResidualGraph,
     from: usize,
@@ -107,7 +109,8 @@ fn visit(
     fan(r, from, space, wanted, false, r.graph.ins, u, next)
 }
 
-// Marks the nodes that tight residual arcs from `from` on lead to from the sources, which stand in the queue, each above the node it is reached from, and notes the arcs, until a wanted node is reached: that node, or none if all are marked and none is wanted.
+// Marks the nodes that tight residual arcs from `from` on lead to from the sources, which stand in the queue, each above the node it is reached from,
+// and notes the arcs, until a wanted node is reached: that node, or none if all are marked and none is wanted.
 pub fn search(
     r: ResidualGraph,
     from: usize,
