@@ -52,7 +52,7 @@ fn send_from(graph: Graph, x: &mut [u16], pot: &[u64], units: &mut Units<'_>, v:
 }
 
 // Sends units over single tight arcs, each from a node that has some left to one that lacks some: node by node, later arcs first.
-pub fn send_direct(graph: Graph, x: &mut [u16], pot: &[u64], units: &mut Units<'_>)
+pub(crate) fn send_direct(graph: Graph, x: &mut [u16], pot: &[u64], units: &mut Units<'_>)
     requires ready { Ready (residual_on graph x.old pot.now) (phase_most * total units.old.left.now) units.old.left.now units.old.lack.now }
     requires left_len { length units.old.left.now ≡ graph.nodes }
     ensures carried { Moved graph.entry x.old units.old x.new units.new }

@@ -41,7 +41,7 @@ pub fn mark_only(source: usize, space: &mut Space<'_>)
 }
 
 // Wants one node, and no other.
-pub fn want_only(target: usize, wanted: &mut [u16])
+pub(crate) fn want_only(target: usize, wanted: &mut [u16])
     requires { target < length wanted.old }
     ensures { Wants wanted.new target }
 {

@@ -5,7 +5,7 @@ ghost use Rattle.residual.specs.Chains.{Chain, Lined};
 ghost use Rattle.residual.specs.Graphs.{lists_of, Workspace};
 ghost use Rattle.residual.specs.Searches.{Reach, Standing, Underway, Further, SpentAt, Done, Sought};
 
-use crate::arcs::{is_even, open_end};
+use crate::arcs::{is_tight_by, open_end};
 use crate::graph::{Links, ResidualGraph};
 
 // Space to search in, by node: its mark, the arc that leads to it, and a queue.
@@ -29,7 +29,7 @@ fn reached_by(r: ResidualGraph, space: &Space<'_>, on: bool, u: usize, a: usize)
     ensures { Reach (lists_of r.entry) space.now.dist.now u a result }
 {
     let v = open_end(r, space.dist, on, a)?;
-    if !is_even(on, r.graph.arcs[a].cost, r.pot[u], r.pot[v]) {
+    if !is_tight_by(on, r.graph.arcs[a].cost, r.pot[u], r.pot[v]) {
         return None;
     }
     Some(v)
