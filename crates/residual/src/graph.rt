@@ -1,7 +1,7 @@
 //! Arcs that are linked at their ends, and residual arcs: those with units on them, and potentials of the nodes.
 ghost use Rattle.std.specs.Prelude.{◌≡◌, ◌<◌, length};
 ghost use Rattle.residual.specs.Residual.{Shaped, far_end};
-ghost use Rattle.residual.specs.Chains.{Chain};
+ghost use Rattle.residual.specs.Chains.{Chain, ChainBy};
 ghost use Rattle.residual.specs.Arcs.{tails_of, heads_of, lowers_of, tops_of, residual_from};
 
 use crate::arcs::Arc;
@@ -55,4 +55,13 @@ pub struct ResidualGraph<'a, 'x, 'p> {
     pub x: &'x [u16],
     pub pot: &'p [u64],
     pub ghost shaped: { Shaped (residual_from graph.most graph.arcs.now x.now pot.now) graph.nodes },
+}
+
+impl<'a> ResidualGraph<'a, '_, '_> {
+    // The links at the ends where steps on, or back, begin.
+    pub(crate) fn links(self, on: bool) -> Links<'a>
+        ensures { ChainBy on (residual_from self.entry.graph.most self.entry.graph.arcs.now self.entry.x.now self.entry.pot.now) self.entry.graph.nodes result.last.now result.before.now }
+    {
+        if on { self.graph.outs } else { self.graph.ins }
+    }
 }
