@@ -1,4 +1,5 @@
--- The arcs at each node that can move, the last one first: for each node its last arc, and for each arc the one before it at the same node. The queue of a search.
+-- The arcs at each node that can move, the last one first: for each node its last arc, and for each arc the one before it at the same node.
+-- The queue of a search.
 use Rattle.std.specs.Prelude.{◌≡◌, Bool, List, ℕ, ◌+◌, ◌-◌, ◌≤◌, ◌<◌, length, get_or}
 use Rattle.residual.specs.declared.arcs.Arc.{Arc}
 use Rattle.residual.specs.Arcs.{lowers_of, uppers_of, tops_of, ends_of, fars_of}
