@@ -1,4 +1,6 @@
--- A test that tells of a flow and potentials that the flow is the least: of numbers that are written out, it computes. The potentials show that no flow is cheaper. For each arc in turn, the nodes that a unit can come to from its tail by free arcs above it are a set that shows that no flow as cheap has fewer units there.
+-- A test that tells of a flow and potentials that the flow is the least: of numbers that are written out, it computes.
+-- The potentials show that no flow is cheaper.
+-- For each arc in turn, the nodes that a unit can come to from its tail by free arcs above it are a set that shows that no flow as cheap has fewer units there.
 -- Assumes nothing.
 use mathlib.Core.Path.{◌≡◌, refl, ap, subst}
 use mathlib.Core.Bool.{Bool, true, false, ◌&&◌, ◌||◌, not}

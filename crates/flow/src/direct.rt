@@ -1,9 +1,8 @@
 //! Units that can go over one tight arc are sent first, without a search.
 ghost use Rattle.std.specs.Prelude.{◌≡◌, ◌*◌, ◌<◌, length};
-ghost use Rattle.residual.specs.Arcs.{tails_of, heads_of};
 ghost use Rattle.residual.specs.Graphs.{residual_on};
 ghost use Rattle.flow.specs.Network.{total};
-ghost use Rattle.flow.specs.Solver.{Carried, Ready, Eased, phase_most};
+ghost use Rattle.flow.specs.Solver.{Moved, Ready, Eased, phase_most};
 
 use crate::nodes::Units;
 use residual::arcs::{far_end, is_tight, near_end, top};
@@ -13,7 +12,7 @@ use residual::graph::Graph;
 fn send_over(graph: Graph, x: &mut [u16], pot: &[u64], units: &mut Units<'_>, a: usize)
     requires ready { Ready (residual_on graph x.old pot.now) (phase_most * total units.old.left.now) units.old.left.now units.old.lack.now }
     requires a_in_bounds { a < length graph.arcs.now }
-    ensures carried { Carried (tails_of graph.entry.arcs.now) (heads_of graph.entry.arcs.now) x.old units.old.left.now units.old.lack.now x.new units.new.left.now units.new.lack.now }
+    ensures carried { Moved graph.entry x.old units.old x.new units.new }
     ensures eased { Eased (residual_on graph.entry x.new pot.now) units.new.left.now units.new.lack.now units.old.left.now }
 {
     let t = near_end(graph.arcs, true, a);
@@ -37,7 +36,7 @@ fn send_from(graph: Graph, x: &mut [u16], pot: &[u64], units: &mut Units<'_>, v:
     requires ready { Ready (residual_on graph x.old pot.now) (phase_most * total units.old.left.now) units.old.left.now units.old.lack.now }
     requires v_in_bounds { v < graph.nodes }
     requires v_in_left { v < length units.old.left.now }
-    ensures carried { Carried (tails_of graph.entry.arcs.now) (heads_of graph.entry.arcs.now) x.old units.old.left.now units.old.lack.now x.new units.new.left.now units.new.lack.now }
+    ensures carried { Moved graph.entry x.old units.old x.new units.new }
     ensures eased { Eased (residual_on graph.entry x.new pot.now) units.new.left.now units.new.lack.now units.old.left.now }
 {
     if units.left[v] == 0 {
@@ -53,10 +52,10 @@ fn send_from(graph: Graph, x: &mut [u16], pot: &[u64], units: &mut Units<'_>, v:
 }
 
 // Sends units over single tight arcs, each from a node that has some left to one that lacks some: node by node, later arcs first.
-pub fn send_direct(graph: Graph, x: &mut [u16], pot: &[u64], units: &mut Units<'_>)
+pub(crate) fn send_direct(graph: Graph, x: &mut [u16], pot: &[u64], units: &mut Units<'_>)
     requires ready { Ready (residual_on graph x.old pot.now) (phase_most * total units.old.left.now) units.old.left.now units.old.lack.now }
     requires left_len { length units.old.left.now ≡ graph.nodes }
-    ensures carried { Carried (tails_of graph.entry.arcs.now) (heads_of graph.entry.arcs.now) x.old units.old.left.now units.old.lack.now x.new units.new.left.now units.new.lack.now }
+    ensures carried { Moved graph.entry x.old units.old x.new units.new }
     ensures eased { Eased (residual_on graph.entry x.new pot.now) units.new.left.now units.new.lack.now units.old.left.now }
 {
     for v in 0..graph.nodes {

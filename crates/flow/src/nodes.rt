@@ -10,7 +10,8 @@ pub struct Node {
 }
 
 // By node: the units that it has left, and those that it lacks.
-// Slices of arrays of fixed size, since nothing is allocated. That they have a place for each node is asked for where a graph is met: no value of this type knows it.
+// Slices of arrays of fixed size, since nothing is allocated.
+// That they have a place for each node is asked for where a graph is met: no value of this type knows it.
 #[derive(Drop)]
 pub struct Units<'a> {
     pub left: &'a mut [u16],
@@ -21,18 +22,10 @@ pub struct Units<'a> {
 #[derive(Clone, Copy, PartialEq, Eq, Debug)]
 pub struct Infeasible;
 
-// The sum of a few numbers.
-fn total_of(xs: &[u16]) -> u16
-    requires { total xs.now < 65536 }
-    ensures { result ≡ total xs.now }
-{
-    xs.iter().sum()
-}
-
 // How many units are left.
-pub fn total_left(units: &Units<'_>) -> u16
+pub(crate) fn total_left(units: &Units<'_>) -> u16
     requires { total units.now.left.now < 65536 }
     ensures { result ≡ total units.now.left.now }
 {
-    total_of(units.left)
+    units.left.iter().sum()
 }

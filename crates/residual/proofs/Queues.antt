@@ -1,4 +1,5 @@
--- A search by a queue: a node that is reached goes behind the queue; an arc that leads to no new node never does later; when the queue is empty, no arc leads further.
+-- A search by a queue: a node that is reached goes behind the queue; an arc that leads to no new node never does later;
+-- when the queue is empty, no arc leads further.
 use mathlib.Core.Path.{◌≡◌, refl, sym, ap, ◌∙◌, subst}
 use Rattle.std.proofs.Common.{None, Some}
 use mathlib.Core.Logic.{⊎_elim}

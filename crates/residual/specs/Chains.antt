@@ -1,8 +1,9 @@
--- The arcs at each node that can move, the last one first: for each node its last arc, and for each arc the one before it at the same node. The queue of a search.
+-- The arcs at each node that can move, the last one first: for each node its last arc, and for each arc the one before it at the same node.
+-- The queue of a search.
 use Rattle.std.specs.Prelude.{◌≡◌, Bool, List, ℕ, ◌+◌, ◌-◌, ◌≤◌, ◌<◌, length, get_or}
 use Rattle.residual.specs.declared.arcs.Arc.{Arc}
 use Rattle.residual.specs.Arcs.{lowers_of, uppers_of, tops_of, ends_of, fars_of}
-use Rattle.residual.specs.Residual.{reached, unreached}
+use Rattle.residual.specs.Residual.{Residual, near_ends, reached, unreached}
 
 -- an arc whose bounds let it move
 abbrev pub Movable : List ℕ → List ℕ → ℕ → Type 0
@@ -20,6 +21,10 @@ pub record Chain (ends lowers uppers : List ℕ) (nodes : ℕ) (last before : Li
   pub before_long : length before ≡ length ends
   pub last_at : (v : ℕ) → v < nodes → Last ends lowers uppers v (length ends) (get_or last v 0)
   pub before_at : (a : ℕ) → a < length ends → Last ends lowers uppers (get_or ends a 0) a (get_or before a 0)
+
+-- those at the ends where steps on, or back, begin
+abbrev pub ChainBy : Bool → Residual → ℕ → List ℕ → List ℕ → Type 0
+ChainBy on r nodes last before = Chain (near_ends on r) r.lowers r.uppers nodes last before
 
 -- the lists once the arcs below k are linked
 pub record Chaining (ends lowers uppers : List ℕ) (nodes k : ℕ) (last before : List ℕ) : Type 0 where

@@ -26,7 +26,7 @@ pub const NO_ARC: Arc = Arc {
 };
 
 // The mark of a node that no source leads to. A byte, no option: marks are compared in order, and this one stands above all others.
-pub const UNREACHED: u8 = 255;
+pub(crate) const UNREACHED: u8 = 255;
 
 // Whether an arc of this cost is tight between potentials low and high.
 pub fn is_tight(cost: u64, low: u64, high: u64) -> bool
@@ -39,7 +39,7 @@ pub fn is_tight(cost: u64, low: u64, high: u64) -> bool
 // A flag, since the definitions have it: one function, and one proof, serves both ways.
 
 // Whether an arc of this cost is tight, for a step on, or back, between the potentials of the nodes near and far.
-pub fn is_even(on: bool, cost: u64, near: u64, far: u64) -> bool
+pub(crate) fn is_tight_by(on: bool, cost: u64, near: u64, far: u64) -> bool
     ensures { Tells result (Even on cost near far) }
 {
     if on {
@@ -63,32 +63,33 @@ fn has_room(on: bool, units: u16, lower: u16, upper: u16) -> bool
     if on { units < upper } else { lower < units }
 }
 
-// Where a step on, or back, along arc a begins.
-pub fn near_end(arcs: &[Arc], on: bool, a: usize) -> usize
-    requires { a < length arcs.now }
-    ensures { result ≡ get_or (ends_of on arcs.now) a 0 }
-{
-    usize::from(if on { arcs[a].tail } else { arcs[a].head })
-}
-
 // Where a step on, or back, along arc a leads, as the arc has it.
-pub fn leads_to(arcs: &[Arc], on: bool, a: usize) -> u8
+pub(crate) fn leads_to(arcs: &[Arc], on: bool, a: usize) -> u8
     requires { a < length arcs.now }
     ensures { result ≡ get_or (fars_of on arcs.now) a 0 }
 {
     if on { arcs[a].head } else { arcs[a].tail }
 }
 
-// Where a step on, or back, along arc a leads: where one the other way begins.
+// Where a step on, or back, along arc a begins: where one the other way leads.
+// Called with `far_end` also where the arc is at hand: they promise the ends as the lists by arc have them, and so that each is a node.
+pub fn near_end(arcs: &[Arc], on: bool, a: usize) -> usize
+    requires { a < length arcs.now }
+    ensures { result ≡ get_or (ends_of on arcs.now) a 0 }
+{
+    usize::from(leads_to(arcs, !on, a))
+}
+
+// Where a step on, or back, along arc a leads.
 pub fn far_end(arcs: &[Arc], on: bool, a: usize) -> usize
     requires { a < length arcs.now }
     ensures { result ≡ far_end on (tails_of arcs.now) (heads_of arcs.now) a }
 {
-    near_end(arcs, !on, a)
+    usize::from(leads_to(arcs, on, a))
 }
 
 // Where a step on, or back, along arc a leads, if that node is new and there is room.
-pub fn open_end(r: ResidualGraph, dist: &[u8], on: bool, a: usize) -> Option<usize>
+pub(crate) fn open_end(r: ResidualGraph, dist: &[u8], on: bool, a: usize) -> Option<usize>
     requires dist_len { length dist.now ≡ r.graph.nodes }
     requires a_in_bounds { a < length r.graph.arcs.now }
     ensures { Open (lists_of r.entry) dist.now on a result }

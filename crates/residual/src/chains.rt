@@ -48,7 +48,7 @@ fn link_arc(arcs: &[Arc], on: bool, links: &mut LinkSpace<'_>, a: usize)
     links.before[a] = links.last[v];
     links.far[a] = to;
     if arc.lower < arc.upper {
-        // With `as`: there are 1024 arcs at most, and try_from would test it again.
+        // `as`: there are 1024 arcs at most, and `try_from` would test it again.
         links.last[v] = (a + 1) as u16;
     }
 }
@@ -86,7 +86,7 @@ pub fn enqueue_sources(space: &mut Space<'_>) -> usize
     let mut count = 0;
     for v in 0..space.dist.len() {
         if space.dist[v] == 0 {
-            // With `as`: there are 255 nodes at most, and try_from would test it again.
+            // `as`: there are 255 nodes at most, and `try_from` would test it again.
             space.queue[count] = v as u8;
             count += 1;
         }

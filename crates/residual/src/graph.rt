@@ -1,14 +1,15 @@
 //! Arcs that are linked at their ends, and residual arcs: those with units on them, and potentials of the nodes.
 ghost use Rattle.std.specs.Prelude.{◌≡◌, ◌<◌, length};
 ghost use Rattle.residual.specs.Residual.{Shaped, far_end};
-ghost use Rattle.residual.specs.Chains.{Chain};
+ghost use Rattle.residual.specs.Chains.{Chain, ChainBy};
 ghost use Rattle.residual.specs.Arcs.{tails_of, heads_of, lowers_of, tops_of, residual_from};
 
 use crate::arcs::Arc;
 
-// The arcs at each node that can move, from the last one back: by node its last arc, by arc the one before it, each one more than its number; and by arc the node that it leads to.
+// The arcs at each node that can move, from the last one back: by node its last arc, by arc the one before it, each one more than its number;
+// and by arc the node that it leads to.
 // 0 is none: one test, `at > from`, ends a walk there and below `from`.
-// Lists, not a list of structs: a walk passes over most arcs by their far ends, which stand in fewer bytes so and are found in fewer instructions.
+// Lists, not a list of structs: of most arcs a walk reads the far end only, and a list of bytes takes less memory and fewer instructions to read.
 #[derive(Clone, Copy)]
 pub struct Links<'a> {
     pub last: &'a [u16],
@@ -54,4 +55,13 @@ pub struct ResidualGraph<'a, 'x, 'p> {
     pub x: &'x [u16],
     pub pot: &'p [u64],
     pub ghost shaped: { Shaped (residual_from graph.most graph.arcs.now x.now pot.now) graph.nodes },
+}
+
+impl<'a> ResidualGraph<'a, '_, '_> {
+    // The links at the ends where steps on, or back, begin.
+    pub(crate) fn links(self, on: bool) -> Links<'a>
+        ensures { ChainBy on (residual_from self.entry.graph.most self.entry.graph.arcs.now self.entry.x.now self.entry.pot.now) self.entry.graph.nodes result.last.now result.before.now }
+    {
+        if on { self.graph.outs } else { self.graph.ins }
+    }
 }

@@ -36,12 +36,12 @@ pub fn mark_only(source: usize, space: &mut Space<'_>)
 {
     space.dist.fill(UNREACHED);
     space.dist[source] = 0;
-    // With `as`: there are 255 nodes at most, and try_from would test it again.
+    // `as`: there are 255 nodes at most, and `try_from` would test it again.
     space.queue[0] = source as u8;
 }
 
 // Wants one node, and no other.
-pub fn want_only(target: usize, wanted: &mut [u16])
+pub(crate) fn want_only(target: usize, wanted: &mut [u16])
     requires { target < length wanted.old }
     ensures { Wants wanted.new target }
 {

@@ -1,13 +1,12 @@
 //! The gap to the next tight arc, and the raise of the potentials by it.
 ghost use Rattle.std.specs.Prelude.{◌≡◌, ℕ, ◌+◌, ◌^◌, ◌<◌, ◌≤◌, length, get_or, unwrap_or};
 ghost use Rattle.residual.specs.Residual.{near_ends};
-ghost use Rattle.residual.specs.Chains.{Chain};
 ghost use Rattle.residual.specs.Graphs.{lists_of};
 ghost use Rattle.residual.specs.Searches.{Standing};
 ghost use Rattle.residual.specs.Prices.{Fits, short, Sums, Slack, Positive, Lesser, LeavesBy, LeavesFrom, Closest, Gap, Raised};
 
 use crate::arcs::{UNREACHED, open_end};
-use crate::graph::{Links, ResidualGraph};
+use crate::graph::ResidualGraph;
 use crate::search::Space;
 
 // `on` is that of `arcs`: a step on, or back.
@@ -24,6 +23,8 @@ fn short_by(on: bool, cost: u64, near: u64, far: u64) -> u64
 }
 
 // How short of tight arc a is if it leaves the reached nodes and is not tight; u is reached, and a step on, or back, along a begins there.
+// An option beside `Positive`, and 0 for none in the other clauses: the definitions compare numbers, and 0 is above no gap.
+// That cost and potential together fit is asked for here: the search and the push do not need it of a `ResidualGraph`.
 fn slack_at(r: ResidualGraph, dist: &[u8], on: bool, u: usize, a: usize) -> Option<u64>
     requires dist_len { length dist.now ≡ r.graph.nodes }
     requires sums { Sums (lists_of r) }
@@ -39,6 +40,7 @@ fn slack_at(r: ResidualGraph, dist: &[u8], on: bool, u: usize, a: usize) -> Opti
 }
 
 // The lesser of two numbers, of which the first may be missing.
+// A function of its own: it promises `Lesser`, which the library's `min` does not name.
 fn lesser(m: Option<u64>, n: u64) -> Option<u64>
     requires m_positive { Positive m }
     requires n_positive { 0 < n }
@@ -51,24 +53,16 @@ fn lesser(m: Option<u64>, n: u64) -> Option<u64>
     }
 }
 
-// Six parameters, each of another kind: the graph and its marks are read, the walk begins at u by the links of `on`, and `most` is carried through.
 // The lesser of `most` and of what the arcs that steps on, or back, from u lead along are short of tight where they leave the reached nodes.
-fn gap_by(
-    r: ResidualGraph,
-    dist: &[u8],
-    on: bool,
-    links: Links,
-    u: usize,
-    most: Option<u64>,
-) -> Option<u64>
+fn gap_by(r: ResidualGraph, dist: &[u8], on: bool, u: usize, most: Option<u64>) -> Option<u64>
     requires dist_len { length dist.now ≡ r.graph.nodes }
     requires sums { Sums (lists_of r) }
-    requires chain { Chain (near_ends on (lists_of r)) (lists_of r).lowers (lists_of r).uppers (length dist.now) links.last.now links.before.now }
     requires standing { Standing dist.now u }
     requires most_positive { Positive most }
     ensures closest { Closest (lists_of r.entry) dist.now (LeavesBy (lists_of r.entry) dist.now on u) (unwrap_or most 0) (unwrap_or result 0) }
     ensures positive { Positive result }
 {
+    let links = r.links(on);
     let mut best = most;
     let mut at = usize::from(links.last[u]);
     // A while: each arc names the next one.
@@ -94,8 +88,8 @@ fn gap_at(r: ResidualGraph, dist: &[u8], u: usize, most: Option<u64>) -> Option<
     if dist[u] == UNREACHED {
         return most;
     }
-    let on = gap_by(r, dist, true, r.graph.outs, u, most);
-    gap_by(r, dist, false, r.graph.ins, u, on)
+    let on = gap_by(r, dist, true, u, most);
+    gap_by(r, dist, false, u, on)
 }
 
 // The least by which a residual arc that leaves the reached nodes is short of tight, if one is.

@@ -1,15 +1,16 @@
 //! The search from the sources along tight residual arcs, by a queue of the nodes reached.
 ghost use Rattle.std.specs.Prelude.{◌≡◌, ◌<◌, ◌-◌, length, get_or};
 ghost use Rattle.residual.specs.Residual.{near_ends, Fresh};
-ghost use Rattle.residual.specs.Chains.{Chain, Lined};
+ghost use Rattle.residual.specs.Chains.{Lined};
 ghost use Rattle.residual.specs.Graphs.{lists_of, Workspace};
 ghost use Rattle.residual.specs.Searches.{Reach, Standing, Underway, Further, SpentAt, Done, Sought};
 
-use crate::arcs::{is_even, open_end};
-use crate::graph::{Links, ResidualGraph};
+use crate::arcs::{is_tight_by, open_end};
+use crate::graph::ResidualGraph;
 
 // Space to search in, by node: its mark, the arc that leads to it, and a queue.
-// Slices of arrays of fixed size, since nothing is allocated. That they have a place for each node of a graph is asked for where both are met: no value of this type knows the graph.
+// Slices of arrays of fixed size, since nothing is allocated.
+// That they have a place for each node of a graph is asked for where both are met: no value of this type knows the graph.
 #[derive(Drop)]
 pub struct Space<'a> {
     pub dist: &'a mut [u8],
@@ -28,7 +29,7 @@ fn reached_by(r: ResidualGraph, space: &Space<'_>, on: bool, u: usize, a: usize)
     ensures { Reach (lists_of r.entry) space.now.dist.now u a result }
 {
     let v = open_end(r, space.dist, on, a)?;
-    if !is_even(on, r.graph.arcs[a].cost, r.pot[u], r.pot[v]) {
+    if !is_tight_by(on, r.graph.arcs[a].cost, r.pot[u], r.pot[v]) {
         return None;
     }
     Some(v)
@@ -42,33 +43,33 @@ fn node_at(space: &Space<'_>, i: usize) -> usize
     usize::from(space.queue[i])
 }
 
-// Eight parameters: what is read, what is written, the way of the steps with its links, and the place that the walk has come to.
-// Marks each new node that a step on, or back, from u along an arc from `from` on leads to, notes the arc and puts the node into the queue, until one is wanted; how many nodes then stand there.
+// Marks each new node that a step on, or back, from u along an arc from `from` on leads to, notes the arc and puts the node into the queue,
+// until one is wanted; how many nodes then stand there.
+// Seven parameters: a struct of the walk would be made and taken apart for each node.
 fn fan(
     r: ResidualGraph,
     from: usize,
     space: &mut Space<'_>,
     wanted: &[u16],
     on: bool,
-    links: Links,
     u: usize,
     count: usize,
 ) -> usize
     requires dist_len { length space.old.dist.now ≡ r.graph.nodes }
     requires wanted_len { length wanted.now ≡ r.graph.nodes }
-    requires chain { Chain (near_ends on (lists_of r)) (lists_of r).lowers (lists_of r).uppers (length space.old.dist.now) links.last.now links.before.now }
     requires standing { Standing space.old.dist.now u }
     requires underway { Underway (lists_of r) from count space.old.dist.now space.old.via.now space.old.queue.now }
     ensures further { Further (lists_of r.entry) from count space.old.dist.now space.old.queue.now result space.new.dist.now space.new.via.now space.new.queue.now }
     ensures spent_at { get_or wanted.now (get_or space.new.queue.now (result - 1) 0) 0 ≡ 0 → SpentAt (lists_of r.entry) from (near_ends on (lists_of r.entry)) space.new.dist.now u }
 {
+    let links = r.links(on);
     let mut next = count;
     let mut at = usize::from(links.last[u]);
     // A while: each arc names the next one.
     while at > from {
         let a = at - 1;
         if let Some(v) = reached_by(r, space, on, u, a) {
-            // With `as`: there are 255 nodes and 1024 arcs at most, and try_from would test it again.
+            // `as`: there are 255 nodes and 1024 arcs at most, and `try_from` would test it again.
             space.dist[v] = next as u8;
             space.via[v] = a as u16;
             space.queue[next] = v as u8;
@@ -82,8 +83,8 @@ fn fan(
     next
 }
 
-// Six parameters: those of `fan`, but for the way of the steps.
 // Marks each new node that an arc from `from` on leads to from u, until one is wanted; how many nodes then stand in the queue.
+// Six parameters, as `fan`.
 fn visit(
     r: ResidualGraph,
     from: usize,
@@ -99,15 +100,16 @@ fn visit(
     ensures further { Further (lists_of r.entry) from count space.old.dist.now space.old.queue.now result space.new.dist.now space.new.via.now space.new.queue.now }
     ensures done { get_or wanted.now (get_or space.new.queue.now (result - 1) 0) 0 ≡ 0 → Done (lists_of r.entry) from space.new.dist.now u }
 {
-    let next = fan(r, from, space, wanted, true, r.graph.outs, u, count);
+    let next = fan(r, from, space, wanted, true, u, count);
     let newest = node_at(space, next - 1);
     if wanted[newest] > 0 {
         return next;
     }
-    fan(r, from, space, wanted, false, r.graph.ins, u, next)
+    fan(r, from, space, wanted, false, u, next)
 }
 
-// Marks the nodes that tight residual arcs from `from` on lead to from the sources, which stand in the queue, each above the node it is reached from, and notes the arcs, until a wanted node is reached: that node, or none if all are marked and none is wanted.
+// Marks the nodes that tight residual arcs from `from` on lead to from the sources, which stand in the queue, each above the node it is reached from,
+// and notes the arcs, until a wanted node is reached: that node, or none if all are marked and none is wanted.
 pub fn search(
     r: ResidualGraph,
     from: usize,
