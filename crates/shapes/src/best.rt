@@ -25,7 +25,7 @@ pub struct BestShape {
 
 impl BestShape {
     /// The counts of the first `darts` darts.
-    // A text's counts have a method like it: one for both would take the two arrays, which is no plainer.
+    // A text's counts have a method like it: a struct of the two arrays for both would be a field more in each definition.
     pub fn counts(&self, darts: usize) -> Counts<'_>
         requires { (darts ≤ 256) × (darts % 2 ≡ 0) }
         ensures { (result.angles.now ≡ take darts self.now.angles) × (result.rights.now ≡ take darts self.now.rights) }

@@ -5,7 +5,7 @@ ghost use Rattle.shapes.specs.Rates.{pair_sums, prices_ok, all_within, priced_su
 
 use crate::counts::Counts;
 
-/// By strip the most bends, 255 or none given for no limit, and the price of a bend, 1 where none is given.
+/// By strip the most bends, where 255 is none, as field 07 writes it, and so is none given; and the price of a bend, 1 where none is given.
 #[derive(Clone, Copy)]
 pub struct StripRates<'a> {
     pub limits: &'a [u8],
@@ -26,11 +26,11 @@ pub fn prices_ok(prices: &[u8]) -> bool
     all_between(prices, 1, 100)
 }
 
-// The number of strip `i`, or `none` where the list is shorter.
-pub(crate) fn given_or(numbers: &[u8], none: u8, i: usize) -> u32
-    ensures { (result ≡ get_or numbers.now i none) × (result < 256) }
+// The price of a bend of strip `i`, 1 where the list is shorter.
+pub(crate) fn price_at(prices: &[u8], i: usize) -> u32
+    ensures { (result ≡ get_or prices.now i 1) × (result < 256) }
 {
-    u32::from(numbers.get(i).copied().unwrap_or(none))
+    u32::from(prices.get(i).copied().unwrap_or(1))
 }
 
 // The right bends of both darts of strip `i`.
@@ -62,9 +62,7 @@ pub fn price_of(prices: &[u8], counts: Counts) -> u32
     ensures { result ≡ priced_sum prices.now (pair_sums counts.entry.rights.now) }
 {
     let rights = counts.rights;
-    let mut sum = 0;
-    for i in 0..rights.len() / 2 {
-        sum += given_or(prices, 1, i) * strip_bends(rights, i);
-    }
-    sum
+    (0..rights.len() / 2)
+        .map(|i| price_at(prices, i) * strip_bends(rights, i))
+        .sum()
 }
