@@ -14,8 +14,9 @@ use refusals::Refusal;
 use shapes::counts::Counts;
 
 // Writes a decimal number from `at` on, and gives the place behind it.
+// By hand: the listing's definitions have `decimal` of their own, and a text of std's would be led to them in each proof.
 #[tactic(auto, using(crate::proofs::ListingText::decimal_one_long, crate::proofs::ListingText::decimal_more_long))]
-pub fn write_decimal(n: usize, out: &mut [u8], at: usize) -> usize
+pub fn write_decimal(out: &mut [u8], at: usize, n: usize) -> usize
     requires { at + length (decimal n) ≤ length out.old }
     ensures { Written at (decimal n) out.old out.new result }
 {
@@ -25,7 +26,7 @@ pub fn write_decimal(n: usize, out: &mut [u8], at: usize) -> usize
         out[at] = last;
         return at + 1;
     }
-    let behind = write_decimal(n / 10, out, at);
+    let behind = write_decimal(out, at, n / 10);
     out[behind] = last;
     behind + 1
 }
@@ -45,7 +46,7 @@ fn write_numbered(out: &mut [u8], at: usize, word: &[u8], n: usize) -> usize
     ensures { Written at (numbered word.now n) out.old out.new result }
 {
     let digits = put_text(out, at, word);
-    write_decimal(n, out, digits)
+    write_decimal(out, digits, n)
 }
 
 // Writes a word and a number as the end of a line.
@@ -55,7 +56,7 @@ fn write_line(out: &mut [u8], at: usize, word: &[u8], n: usize) -> usize
     ensures { Written at (line word.now n) out.old out.new result }
 {
     let end = write_numbered(out, at, word, n);
-    out[end] = 10;
+    out[end] = b'\n';
     end + 1
 }
 
@@ -105,6 +106,7 @@ fn give_text(text: &[u8], out: &mut [u8]) -> Result<usize, Refusal>
 }
 
 // The listing of a refused list.
+// As `Display` prints it; that needs a `fmt::Write`, which lent memory is not.
 #[tactic(auto, using(crate::proofs::ListingShort::refused_short))]
 pub(crate) fn list_refused(refusal: Refusal, out: &mut [u8]) -> Result<usize, Refusal>
     ensures { Gives (refused_text (number_of refusal)) out.old out.new (listed_of result) }
