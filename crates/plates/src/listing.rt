@@ -71,6 +71,7 @@ fn write_dart(out: &mut [u8], at: usize, dart: usize, right: usize, angle: usize
 }
 
 // Writes the lines of all darts.
+// The angle by its index: of a `zip` the loop's invariant would have to say what is left of each list.
 fn write_darts(out: &mut [u8], at: usize, counts: Counts) -> usize
     requires { at + length (dart_lines (length counts.rights.now) counts.angles.now counts.rights.now) ≤ length out.old }
     ensures { Written at (dart_lines (length counts.entry.rights.now) counts.entry.angles.now counts.entry.rights.now) out.old out.new result }
