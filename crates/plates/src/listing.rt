@@ -20,7 +20,7 @@ pub fn write_decimal(out: &mut [u8], at: usize, n: usize) -> usize
     requires { at + length (decimal n) ≤ length out.old }
     ensures { Written at (decimal n) out.old out.new result }
 {
-    // `as`: a digit fits a byte, and `u8::try_from` would test it again.
+    // `as`: a digit fits a byte, and `try_from` would test it again.
     let last = b'0' + (n % 10) as u8;
     if n < 10 {
         out[at] = last;
@@ -90,7 +90,7 @@ fn write_counts(out: &mut [u8], revision: usize, counts: Counts) -> usize
     ensures { TextWritten (listing_text revision counts.entry.angles.now counts.entry.rights.now) out.old out.new result }
 {
     let second = write_line(out, 0, b"revision ", revision);
-    // `as`: usize has no From of u32.
+    // `as`: a `u32` fits a `usize`, and `try_from` would test it again.
     let third = write_line(out, second, b"bends ", counts.total() as usize);
     write_darts(out, third, counts)
 }

@@ -40,7 +40,7 @@ fn face_node(q: &Plate, d: usize) -> u8
     requires { d < q.now.darts }
     ensures { result ≡ node_at q.now.posts q.now.face d }
 {
-    // With `as`: a plate keeps 64 posts at most, and try_from would test it again.
+    // `as`: a plate keeps 64 posts at most, and `try_from` would test it again.
     q.posts as u8 + q.face[d]
 }
 
