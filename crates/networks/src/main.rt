@@ -1,4 +1,5 @@
-//! Small networks, solved; writes the units of each arc, or that there is no flow. Each network has six arcs and four nodes; an arc of no use may carry nothing.
+//! Small networks, solved; writes the units of each arc, or that there is no flow.
+//! Each network has six arcs and four nodes; an arc of no use may carry nothing.
 //! The expected flows were found by trying every flow with at most the excess above each lower bound, not by this solver.
 #![tactic(auto)]
 

@@ -36,7 +36,7 @@ impl ShapeFile<'_> {
     {
         judge(self.list.plate, self.counts)?;
         let said = number(self.total);
-        // `as`: usize has no From of u32.
+        // `as`: a `u32` fits a `usize`, and `try_from` would test it again.
         let bends = self.counts.total() as usize;
         if said != bends {
             return Err(Refusal::TotalDiffers);

@@ -32,7 +32,7 @@ impl PlateList<'_> {
         requires enough { file_long self.now.bytes.now ≤ length out.old }
         ensures { FileWritten self.now.bytes.now counts.entry.angles.now counts.entry.rights.now out.old out.new result }
     {
-        // `as`: usize has no From of u32.
+        // `as`: a `u32` fits a `usize`, and `try_from` would test it again.
         let bends = two_bytes(counts.total() as usize);
         let second = write_field(out, 0, 0x11, self.fields.revision);
         let third = write_field(out, second, 0x12, &bends);
@@ -51,7 +51,7 @@ impl PlateList<'_> {
         }
         self.write_fields(counts, out);
         Ok(Written {
-            // `as`: u32 has no From of usize, and the length is at most 528.
+            // `as`: the length is at most 528, and `try_from` would test it again.
             long: long as u32,
             bends: counts.total(),
         })

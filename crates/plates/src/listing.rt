@@ -14,18 +14,19 @@ use refusals::Refusal;
 use shapes::counts::Counts;
 
 // Writes a decimal number from `at` on, and gives the place behind it.
+// By hand: the listing's definitions have `decimal` of their own, and a text of std's would be led to them in each proof.
 #[tactic(auto, using(crate::proofs::ListingText::decimal_one_long, crate::proofs::ListingText::decimal_more_long))]
-pub fn write_decimal(n: usize, out: &mut [u8], at: usize) -> usize
+pub fn write_decimal(out: &mut [u8], at: usize, n: usize) -> usize
     requires { at + length (decimal n) ≤ length out.old }
     ensures { Written at (decimal n) out.old out.new result }
 {
-    // `as`: a digit fits a byte, and `u8::try_from` would test it again.
+    // `as`: a digit fits a byte, and `try_from` would test it again.
     let last = b'0' + (n % 10) as u8;
     if n < 10 {
         out[at] = last;
         return at + 1;
     }
-    let behind = write_decimal(n / 10, out, at);
+    let behind = write_decimal(out, at, n / 10);
     out[behind] = last;
     behind + 1
 }
@@ -45,7 +46,7 @@ fn write_numbered(out: &mut [u8], at: usize, word: &[u8], n: usize) -> usize
     ensures { Written at (numbered word.now n) out.old out.new result }
 {
     let digits = put_text(out, at, word);
-    write_decimal(n, out, digits)
+    write_decimal(out, digits, n)
 }
 
 // Writes a word and a number as the end of a line.
@@ -55,7 +56,7 @@ fn write_line(out: &mut [u8], at: usize, word: &[u8], n: usize) -> usize
     ensures { Written at (line word.now n) out.old out.new result }
 {
     let end = write_numbered(out, at, word, n);
-    out[end] = 10;
+    out[end] = b'\n';
     end + 1
 }
 
@@ -70,6 +71,7 @@ fn write_dart(out: &mut [u8], at: usize, dart: usize, right: usize, angle: usize
 }
 
 // Writes the lines of all darts.
+// The angle by its index: of a `zip` the loop's invariant would have to say what is left of each list.
 fn write_darts(out: &mut [u8], at: usize, counts: Counts) -> usize
     requires { at + length (dart_lines (length counts.rights.now) counts.angles.now counts.rights.now) ≤ length out.old }
     ensures { Written at (dart_lines (length counts.entry.rights.now) counts.entry.angles.now counts.entry.rights.now) out.old out.new result }
@@ -88,7 +90,7 @@ fn write_counts(out: &mut [u8], revision: usize, counts: Counts) -> usize
     ensures { TextWritten (listing_text revision counts.entry.angles.now counts.entry.rights.now) out.old out.new result }
 {
     let second = write_line(out, 0, b"revision ", revision);
-    // `as`: usize has no From of u32.
+    // `as`: a `u32` fits a `usize`, and `try_from` would test it again.
     let third = write_line(out, second, b"bends ", counts.total() as usize);
     write_darts(out, third, counts)
 }
@@ -105,6 +107,7 @@ fn give_text(text: &[u8], out: &mut [u8]) -> Result<usize, Refusal>
 }
 
 // The listing of a refused list.
+// As `Display` prints it; that needs a `fmt::Write`, which lent memory is not.
 #[tactic(auto, using(crate::proofs::ListingShort::refused_short))]
 pub(crate) fn list_refused(refusal: Refusal, out: &mut [u8]) -> Result<usize, Refusal>
     ensures { Gives (refused_text (number_of refusal)) out.old out.new (listed_of result) }

@@ -7,7 +7,7 @@ use lib.ListN.{get_or}
 use Rattle.embedding.specs.Plates.{Plate, darts}
 use Rattle.shapes.specs.Shapes.{Shape, total, rights_of, shape_of}
 use Rattle.shapes.specs.Claims.{Accepted, Best}
-use Rattle.shapes.specs.Rates.{rates, pair_sums, all_within, BestWithin}
+use Rattle.shapes.specs.Rates.{Rates, Fair, BestBy, rates, pair_sums, all_within, BestWithin}
 use Rattle.shapes.proofs.Accepted.{faultless, ordered, shape_is_flow, flow_is_shape}
 use Rattle.shapes.proofs.FlowFacts.{is_flow_facts}
 use Rattle.shapes.proofs.Straight.{both, straightened, straight_flow, never_both_if}
@@ -37,3 +37,14 @@ module _ (p : Plate) (a : Accepted p) (ls : List ℕ) (s : Shape) (best : BestWi
 module _ (p : Plate) (a : Accepted p) (s : Shape) (best : Best p s) where
   pub best_unit : (d : ℕ) → d < darts p → get_or (rights_of s.words) d 0 ≤ 198
   best_unit = within_unit p a [] s (best_free [] refl best)
+
+-- and of one by limits and prices
+module _ (p : Plate) (a : Accepted p) (r : Rates) (fair : Fair r) (s : Shape) (best : BestBy p r s) where
+  pub rated_unit : (d : ℕ) → d < darts p → get_or (rights_of s.words) d 0 ≤ 198
+  rated_unit = Rated.best_unit p (faultless p a) (ordered p a) r fair s best
+
+  pub rated_total : total (rights_of s.words) < 65536
+  rated_total = Rated.best_total p (faultless p a) (ordered p a) r fair s best
+
+  pub rated_one_way : (d : ℕ) → d < darts p → both p (ordered p a) (rights_of s.words) d ≡ 0
+  rated_one_way = Rated.best_one_way p (faultless p a) (ordered p a) r fair s best

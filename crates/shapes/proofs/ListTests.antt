@@ -2,7 +2,7 @@
 use mathlib.Core.Path.{◌≡◌, refl, sym, ap, ◌∙◌}
 use mathlib.Core.Bool.{Bool, true, false, ◌&&◌}
 use mathlib.Core.List.{List, [], ◌∷◌}
-use Prim.Native.Nat.{ℕ, zero, suc, ◌+◌}
+use Prim.Native.Nat.{ℕ, zero, suc}
 use native.Mathlib.Omega.{arith}
 use native.Mathlib.Numerals.{add-one}
 use denote.Param.Members.{Mut}
@@ -39,8 +39,3 @@ pub all_tried : {F : Type 0} {g : Mut F (ℕ × Unit {0}) Bool} {u : Range ℕ} 
     × MatchOption o (r ≡ true) (λ x. (r ≡ false) × ((h : F) × Called g j (x, tt) false h))
     → ((x : ℕ) (b : Bool) (q : F) → Called g f (x, tt) b q → (q ≡ f) × (b ≡ t x)) → r ≡ list_all t (range_with_len 0 n)
 all_tried {u = u} {f = f} t n r ran tells = all_from_yields_List t u f r ran (YieldsList-from_range 0 n n refl (omega arith)) tells
-
--- numbers counted from one further on
-pub all_shift : (t : ℕ → Bool) (n v : ℕ) → list_all t (range_with_len (v + 1) n) ≡ list_all (λ i. t (suc i)) (range_with_len v n)
-all_shift t zero v = refl
-all_shift t (suc n) v = ap (λ (w : ℕ). t w && list_all t (range_with_len (v + 1 + 1) n)) (add-one v) ∙ ap (λ (b : Bool). t (suc v) && b) (all_shift t n (v + 1))

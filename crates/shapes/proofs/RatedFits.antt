@@ -1,4 +1,5 @@
--- A best shape's right bends fit a byte each and their total two, whatever the prices: taking off what goes round a cycle leaves a flow, and the best has nothing to take off.
+-- A best shape's right bends fit a byte each and their total two, and no strip bends both ways, whatever the prices: taking off what goes round a cycle, or along a strip both ways, leaves a flow,
+-- and the best has nothing to take off.
 use mathlib.Core.Path.{◌≡◌, ap}
 use mathlib.Core.Bool.{true}
 use mathlib.Core.List.{List, ◌++◌}
@@ -24,6 +25,7 @@ use Rattle.shapes.proofs.Flows.{is_flow_flow, parted_flow}
 use Rattle.shapes.proofs.SoundNetwork.{network_sound}
 use Rattle.shapes.proofs.Tamassia.{shape_flow, flow_shape}
 use Rattle.shapes.proofs.Bytes.{unit_most, total_fits}
+use Rattle.shapes.proofs.Straight.{both, straightened, less, straight_flow}
 use Rattle.shapes.proofs.Strips.{price_at, Within, StripWithin}
 use Rattle.shapes.proofs.RatedShapes.{rights_count, shape_price, shape_within, counts_price, counts_keep}
 
@@ -96,3 +98,8 @@ module _ (p : Plate) (f : Faultless p) (o : Ordered p) (r : Rates) (fair : Fair 
 
   pub best_total : total (rights_of s.words) < 65536
   best_total = total_fits p f o xs xs_long best_near
+
+  pub best_one_way : (d : ℕ) → d < darts p → both p o xs d ≡ 0
+  best_one_way d l =
+      let straight = straightened p o xs in
+      omega (arith, less p o xs d l, as_many cs straight (straight_flow p o xs cs (shape_flow p o s best.meets_all)) (λ e m. omega (arith, less p o xs e m)) d l)

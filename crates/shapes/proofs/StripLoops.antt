@@ -1,48 +1,57 @@
 -- Strips in turn against their limits and prices: what the rest answers the whole answers. Prices that pass the test are fair.
-use mathlib.Core.Path.{◌≡◌, refl, sym, ap, ◌∙◌}
+use mathlib.Core.Path.{◌≡◌, refl, sym, ap, ap₂, ◌∙◌}
 use mathlib.Core.Bool.{Bool, true, ◌&&◌, ◌||◌}
 use mathlib.Core.List.{List, [], ◌∷◌}
-use Prim.Native.Nat.{ℕ, zero, suc, min, ◌+◌, ◌*◌, ◌≤◌, ◌<◌}
-use native.Mathlib.Nat.{mul-le-mul}
+use Prim.Native.Nat.{ℕ, zero, suc, ◌+◌, ◌*◌, ◌≤◌}
 use native.Mathlib.Omega.{arith}
+use native.Mathlib.Numerals.{add-one}
 use borrow.Author.Tests.{leb-true}
 use lib.Dec.{leb}
 use lib.ListN.{length, get_or}
-use Rattle.std.specs.List.{list_all, range_with_len}
-use Rattle.finite.proofs.Sums.{sum_below}
+use Rattle.std.specs.List.{list_all, sum_by, zip, enumerate_from}
+use Rattle.std.specs.Simd.{first_chunks}
+use Rattle.std.proofs.lemmas.List.Sums.{sum_by-cons}
 use Rattle.finite.proofs.Tests.{and_left, and_right}
 use Rattle.shapes.proofs.Strips.{free_within}
-use Rattle.shapes.proofs.ListTests.{all_shift}
-use Rattle.shapes.specs.Rates.{rates, Fair, prices_ok, all_within, priced_sum}
+use Rattle.shapes.specs.Rates.{rates, Fair, prices_ok, all_within, priced_sum, pair_sums}
 
--- a price and the bends of a strip
-pub product_few : (a b : ℕ) → a < 256 → b < 512 → a * b ≤ 131072
-product_few a b h k = mul-le-mul {n₁ = a} {m₁ = b} {n₂ = 256} {m₂ = 512} (omega arith) (omega arith)
-
--- strip i keeps its limit, which is given
-abbrev pub keeps_at : List ℕ → List ℕ → ℕ → Bool
-keeps_at ls bs i = leb 255 (get_or ls i 0) || leb (get_or bs i 0) (get_or ls i 0)
+-- a strip keeps its limit
+abbrev pub keeps : ℕ × List ℕ → Bool
+keeps p = leb 255 p.0 || leb (get_or p.1 0 0 + get_or p.1 1 0) p.0
 
 -- the strips that have a limit, in turn
-pub within_upto : (n : ℕ) (ls bs : List ℕ) → min (length ls) (length bs) ≡ n → list_all (keeps_at ls bs) (range_with_len 0 n) ≡ all_within ls bs
-within_upto zero [] bs e = sym (free_within [] bs refl)
-within_upto zero (l ∷ ls) [] e = refl
-within_upto zero (l ∷ ls) (b ∷ bs) e = absurd (omega arith)
-within_upto (suc n) [] bs e = absurd (omega arith)
-within_upto (suc n) (l ∷ ls) [] e = absurd (omega arith)
-within_upto (suc n) (l ∷ ls) (b ∷ bs) e =
-    ap (λ (t : Bool). keeps_at (l ∷ ls) (b ∷ bs) 0 && t) (all_shift (keeps_at (l ∷ ls) (b ∷ bs)) n 0 ∙ within_upto n ls bs (omega arith))
+pub within_by : (n : ℕ) (ls rs : List ℕ) → length rs ≡ n + n → list_all keeps (zip ls (first_chunks 2 n rs)) ≡ all_within ls (pair_sums rs)
+within_by zero [] [] e = refl
+within_by zero (l ∷ ls) [] e = refl
+within_by zero ls (x ∷ rs) e = absurd (omega arith)
+within_by (suc n) ls [] e = absurd (omega arith)
+within_by (suc n) ls (x ∷ []) e = absurd (omega arith)
+within_by (suc n) [] (x ∷ (y ∷ rs)) e = sym (free_within [] (pair_sums (x ∷ (y ∷ rs))) refl)
+within_by (suc n) (l ∷ ls) (x ∷ (y ∷ rs)) e = ap (λ (b : Bool). keeps (l, x ∷ (y ∷ [])) && b) (within_by n ls rs (omega arith))
+
+-- a strip at its price
+abbrev pub priced : List ℕ → ℕ × List ℕ → ℕ
+priced ps p = get_or ps p.0 1 * (get_or p.1 0 0 + get_or p.1 1 0)
+
+sum_shift : {X : Type 0} (g : ℕ × X → ℕ) (n : ℕ) (xs : List X) → sum_by g (enumerate_from (n + 1) xs) ≡ sum_by (λ p. g (suc p.0, p.1)) (enumerate_from n xs)
+sum_shift g n [] = refl
+sum_shift g n (x ∷ xs) =
+    sum_by-cons g (n + 1, x) (enumerate_from (n + 1 + 1) xs)
+    ∙ ap₂ (λ (a b : ℕ). a + b) (ap (λ (k : ℕ). g (k, x)) (add-one n)) (sum_shift g (n + 1) xs)
+    ∙ sym (sum_by-cons (λ p. g (suc p.0, p.1)) (n, x) (enumerate_from (n + 1) xs))
 
 -- the strips in turn, each at its price
-abbrev pub priced_at : List ℕ → List ℕ → ℕ → ℕ
-priced_at ps bs i = get_or ps i 1 * get_or bs i 0
-
-pub priced_upto : (n : ℕ) (ps bs : List ℕ) → length bs ≡ n → sum_below n (priced_at ps bs) ≡ priced_sum ps bs
-priced_upto zero ps [] e = refl
-priced_upto zero ps (b ∷ bs) e = absurd (omega arith)
-priced_upto (suc n) ps [] e = absurd (omega arith)
-priced_upto (suc n) [] (b ∷ bs) e = ap (λ (k : ℕ). 1 * b + k) (priced_upto n [] bs (omega arith))
-priced_upto (suc n) (q ∷ ps) (b ∷ bs) e = ap (λ (k : ℕ). q * b + k) (priced_upto n ps bs (omega arith))
+pub priced_by : (n : ℕ) (ps rs : List ℕ) → length rs ≡ n + n → sum_by (priced ps) (enumerate_from 0 (first_chunks 2 n rs)) ≡ priced_sum ps (pair_sums rs)
+priced_by zero ps [] e = refl
+priced_by zero ps (x ∷ rs) e = absurd (omega arith)
+priced_by (suc n) ps [] e = absurd (omega arith)
+priced_by (suc n) ps (x ∷ []) e = absurd (omega arith)
+priced_by (suc n) [] (x ∷ (y ∷ rs)) e =
+    sum_by-cons (priced []) (0, x ∷ (y ∷ [])) (enumerate_from 1 (first_chunks 2 n rs))
+    ∙ ap (λ (k : ℕ). 1 * (x + y) + k) (sum_shift (priced []) 0 (first_chunks 2 n rs) ∙ priced_by n [] rs (omega arith))
+priced_by (suc n) (q ∷ ps) (x ∷ (y ∷ rs)) e =
+    sum_by-cons (priced (q ∷ ps)) (0, x ∷ (y ∷ [])) (enumerate_from 1 (first_chunks 2 n rs))
+    ∙ ap (λ (k : ℕ). q * (x + y) + k) (sum_shift (priced (q ∷ ps)) 0 (first_chunks 2 n rs) ∙ priced_by n ps rs (omega arith))
 
 in_range : (ps : List ℕ) → prices_ok ps ≡ true → (i : ℕ) → (1 ≤ get_or ps i 1) × (get_or ps i 1 ≤ 100)
 in_range [] e i = (omega arith, omega arith)

@@ -77,6 +77,23 @@ module _ (ls : List ℕ) where
 
 -- where limits are none
 module _ (ls : List ℕ) (free : all_free ls ≡ true) {p : Plate} {s : Shape} where
+  -- by whatever prices
+  pub free_by : {ps : List ℕ} → BestBy p (rates ls ps) s → BestBy p (rates [] ps) s
+  free_by b = record {
+    meets_all = b.meets_all;
+    keeps_all = free_within [] (strip_bends s) refl;
+    cheapest = λ u m k. b.cheapest u m (free_within ls (strip_bends u) free);
+    first = λ u m k. b.first u m (free_within ls (strip_bends u) free);
+  }
+
+  pub by_free : {ps : List ℕ} → BestBy p (rates [] ps) s → BestBy p (rates ls ps) s
+  by_free b = record {
+    meets_all = b.meets_all;
+    keeps_all = free_within ls (strip_bends s) free;
+    cheapest = λ u m k. b.cheapest u m (free_within [] (strip_bends u) refl);
+    first = λ u m k. b.first u m (free_within [] (strip_bends u) refl);
+  }
+
   pub free_best : BestWithin p ls s → Best p s
   free_best b = record { meets_all = b.meets_all; fewest = λ u m. b.fewest u m (free_within ls (strip_bends u) free); first = λ u m. b.first u m (free_within ls (strip_bends u) free) }
 
@@ -85,6 +102,9 @@ module _ (ls : List ℕ) (free : all_free ls ≡ true) {p : Plate} {s : Shape} w
 
 -- without limits
 module _ {p : Plate} {s : Shape} where
+  pub best-by : Best p s → BestBy p unrated s
+  best-by b = by_within [] (best_free [] refl b)
+
   pub by_best : BestBy p unrated s → Best p s
   by_best b = free_best [] refl (within_by [] b)
 

@@ -25,7 +25,7 @@ pub struct BestShape {
 
 impl BestShape {
     /// The counts of the first `darts` darts.
-    // A text's counts have a method like it: one for both would take the two arrays, which is no plainer.
+    // A text's counts have a method like it: a struct of the two arrays for both would be a field more in each definition.
     pub fn counts(&self, darts: usize) -> Counts<'_>
         requires { (darts ≤ 256) × (darts % 2 ≡ 0) }
         ensures { (result.angles.now ≡ take darts self.now.angles) × (result.rights.now ≡ take darts self.now.rights) }
@@ -47,7 +47,7 @@ fn bytes_of<F: Fn(usize) -> u16>(n: usize, at: F) -> [u8; 256]
 {
     let mut bytes = [0u8; 256];
     for i in 0..n {
-        // With `as`: it is proved that each fits, and try_from would test it again.
+        // `as`: each fits a byte, as the `requires` says, and `try_from` would test it again.
         bytes[i] = at(i) as u8;
     }
     bytes
@@ -77,7 +77,8 @@ fn take_shape(darts: usize, x: &[u16]) -> BestShape
     }
 }
 
-// The answer, in lent space. Of the three lists two go by arc and one by node, so a struct would ask for as many lengths.
+// The answer, in lent space.
+// Of the three lists two go by arc and one by node, so a struct would ask for as many lengths.
 fn best_in(
     q: &Plate,
     by: StripRates,

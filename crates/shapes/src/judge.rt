@@ -21,7 +21,7 @@ struct Keys<'a, const N: usize> {
 }
 
 impl<const N: usize> Keys<'_, N> {
-    // The post or the face of dart `d`. Like `post_at` of a plate, which reads another table.
+    // The post or the face of dart `d`.
     fn of(self, d: usize) -> usize
         requires { d < 256 }
         ensures { (result ≡ get_or self.entry.by_dart.now d 0) × (result < N) }

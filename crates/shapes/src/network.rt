@@ -8,10 +8,16 @@ ghost use Rattle.shapes.specs.Rates.{rates};
 ghost use Rattle.shapes.specs.NetworkOf.{bend_most, rated_of};
 ghost use Rattle.shapes.specs.Entries.{node_at, outer_node, joint_at, supply_at, demand_at, bend_arc, corner_arc, node, no_arc, no_node, Begun, CornersLaid, ByArc, ByNode};
 
-use crate::rates::{StripRates, given_or};
+use crate::rates::{StripRates, price_at};
 use embedding::{Plate, twin_of};
 use flow::nodes::Node;
 use residual::arcs::Arc;
+
+// What a bend costs for each unit of its price. Each bend costs 1 more.
+const BEND_COST: u64 = 1 << 32;
+
+// What a cornered post costs.
+const CORNER_COST: u64 = 65536;
 
 /// How many arcs the network has.
 pub fn arc_count(q: &Plate) -> usize
@@ -34,11 +40,11 @@ fn face_node(q: &Plate, d: usize) -> u8
     requires { d < q.now.darts }
     ensures { result ≡ node_at q.now.posts q.now.face d }
 {
-    // With `as`: a plate keeps 64 posts at most, and try_from would test it again.
+    // `as`: a plate keeps 64 posts at most, and `try_from` would test it again.
     q.posts as u8 + q.face[d]
 }
 
-// The most units across the strip of dart `d`: its limit, 255 being none.
+// The most units across the strip of dart `d`: its limit, where 255 is none, as field 07 writes it.
 fn bend_most(limits: &[u8], d: usize) -> u16
     ensures { result ≡ bend_most limits.now d }
 {
@@ -58,7 +64,7 @@ fn bend_arc(q: &Plate, by: StripRates, d: usize) -> Arc
         head: face_node(q, twin_of(d)),
         lower: 0,
         upper: bend_most(by.limits, d),
-        cost: u64::from(given_or(by.prices, 1, d / 2)) * 4294967296 + 1,
+        cost: u64::from(price_at(by.prices, d / 2)) * BEND_COST + 1,
     }
 }
 
@@ -71,7 +77,8 @@ fn is_joint(q: &Plate, d: usize) -> bool
     q.degrees[usize::from(q.ends[twin_of(d)])] == 2
 }
 
-// The two arcs of the corner of dart `d`, from the post to the dart's face: at least one unit on the first, and at a joint on the second the unit that makes a cornered post.
+// The two arcs of the corner of dart `d`, from the post to the dart's face: at least one unit on the first,
+// and at a joint on the second the unit that makes a cornered post.
 fn corner_arcs(q: &Plate, d: usize) -> (Arc, Arc)
     requires { d < q.now.darts }
     ensures { (result.0 ≡ corner_arc q.now true d) × (result.1 ≡ corner_arc q.now false d) }
@@ -89,7 +96,7 @@ fn corner_arcs(q: &Plate, d: usize) -> (Arc, Arc)
         Arc {
             lower: 0,
             upper: more,
-            cost: 65536,
+            cost: CORNER_COST,
             ..first
         },
     )

@@ -5,7 +5,7 @@ ghost use Rattle.shapes.specs.Rates.{pair_sums, prices_ok, all_within, priced_su
 
 use crate::counts::Counts;
 
-/// By strip the most bends, 255 or none given for no limit, and the price of a bend, 1 where none is given.
+/// By strip the most bends, where 255 is none, as field 07 writes it, and so is none given; and the price of a bend, 1 where none is given.
 #[derive(Clone, Copy)]
 pub struct StripRates<'a> {
     pub limits: &'a [u8],
@@ -26,19 +26,18 @@ pub fn prices_ok(prices: &[u8]) -> bool
     all_between(prices, 1, 100)
 }
 
-// The number of strip `i`, or `none` where the list is shorter.
-pub(crate) fn given_or(numbers: &[u8], none: u8, i: usize) -> u32
-    ensures { (result ≡ get_or numbers.now i none) × (result < 256) }
+// The price of a bend of strip `i`, 1 where the list is shorter.
+pub(crate) fn price_at(prices: &[u8], i: usize) -> u32
+    ensures { (result ≡ get_or prices.now i 1) × (result < 256) }
 {
-    u32::from(numbers.get(i).copied().unwrap_or(none))
+    u32::from(prices.get(i).copied().unwrap_or(1))
 }
 
-// The right bends of both darts of strip `i`.
-fn strip_bends(rights: &[u8], i: usize) -> u32
-    requires { (length rights.now ≤ 256) × (i + i + 1 < length rights.now) }
-    ensures { (result ≡ get_or (pair_sums rights.now) i 0) × (result < 512) }
+// The right bends of both darts of a strip.
+fn strip_bends(strip: [u8; 2]) -> u32
+    ensures { (result ≡ get_or strip 0 0 + get_or strip 1 0) × (result < 512) }
 {
-    u32::from(rights[i + i]) + u32::from(rights[i + i + 1])
+    u32::from(strip[0]) + u32::from(strip[1])
 }
 
 // A limit of 255 is none.
@@ -52,19 +51,21 @@ fn keeps_limit(most: u32, bends: u32) -> bool
 pub fn limits_ok(limits: &[u8], counts: Counts) -> bool
     ensures { result ≡ all_within limits.now (pair_sums counts.entry.rights.now) }
 {
-    let rights = counts.rights;
-    let strips = limits.len().min(rights.len() / 2);
-    (0..strips).all(|i| keeps_limit(u32::from(limits[i]), strip_bends(rights, i)))
+    let (strips, _) = counts.rights.as_chunks::<2>();
+    limits.iter().zip(strips).all(|(most, strip)| keeps_limit(
+        u32::from(*most),
+        strip_bends(*strip),
+    ))
 }
 
 /// The bends of each strip times its price, together.
 pub fn price_of(prices: &[u8], counts: Counts) -> u32
     ensures { result ≡ priced_sum prices.now (pair_sums counts.entry.rights.now) }
 {
-    let rights = counts.rights;
-    let mut sum = 0;
-    for i in 0..rights.len() / 2 {
-        sum += given_or(prices, 1, i) * strip_bends(rights, i);
-    }
-    sum
+    let (strips, _) = counts.rights.as_chunks::<2>();
+    strips
+        .iter()
+        .enumerate()
+        .map(|(i, strip)| price_at(prices, i) * strip_bends(*strip))
+        .sum()
 }

@@ -91,7 +91,7 @@ fn write_entry(out: &mut [u8], at: usize, entry: Entry) -> usize
     requires { EntryRoom entry at (length out.old) }
     ensures { Written at (entry_text (entry_of entry)) out.old out.new result }
 {
-    let second = write_decimal(entry.dart, out, at);
+    let second = write_decimal(out, at, entry.dart);
     out[second] = b' ';
     let third = write_word(out, second + 1, entry.word);
     let end = if entry.last { b'\n' } else { b' ' };

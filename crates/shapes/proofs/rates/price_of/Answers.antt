@@ -1,28 +1,24 @@
--- `price_of`: the strips before i are paid.
-use mathlib.Core.Path.{ap, ap₂, ◌∙◌}
-use Prim.Native.Nat.{ℕ, ◌*◌, ◌/◌}
-use native.Mathlib.Nat.{le_antisymm}
-use lib.ListN.{length}
-use native.Mathlib.Omega.{arith}
-use Rattle.finite.proofs.Sums.{sum_below, sum_more}
-use Rattle.shapes.specs.Rates.{pair_sums}
-use Rattle.shapes.proofs.Pairs.{sums_long}
-use Rattle.shapes.proofs.StripLoops.{priced_at, priced_upto, product_few}
+-- `price_of`: each strip at its price, at most 128 of at most 131072.
+use Rattle.std.proofs.Common.{ℕ, List, rules, arith, ap, ◌∙◌, ◌/◌, ◌≤◌, ◌^◌, length}
+use Rattle.std.specs.List.{sum_by, enumerate_from}
+use Rattle.std.proofs.lemmas.List.FromFn.{length-enumerate_from}
+use Rattle.std.proofs.lemmas.Iterator.{YieldsList-from_slice, YieldsList-from_map}
+use Rattle.std.proofs.lemmas.Iterator.Consumers.{YieldsList-from_enumerate, sum_by_from_yields_List}
+use Rattle.std.proofs.lemmas.Iterator.Adapters.{fits_from_length, at_most_from_yields_List}
+use Rattle.shapes.proofs.StripLoops.{priced, priced_by}
 use Rattle.shapes.proofs.rates.price_of.Goals as goal
 
-pub loop-i-preserved : goal.loop-i-preserved
-loop-i-preserved c =
-    let l = c.loop-i in
-    let price = c.given_or.ensures in
-    let bends = c.strip_bends.ensures in (
-      omega (arith, l.invariant.0, sum_more l.i (priced_at c.args.prices.now (pair_sums c.args.counts.rights.now)), ap₂ (λ (a b : ℕ). a * b) price.0 bends.0),
-      omega (arith, l.invariant.1, product_few _ _ price.1 bends.1),
-    )
+pub sum-requires-clause-fits : goal.sum-requires-clause-fits
+sum-requires-clause-fits c =
+    let strips : List (List ℕ) = c.as_chunks.result.0.now in
+    let few : length (enumerate_from 0 strips) ≤ 128 = omega (arith, length-enumerate_from 0 strips, c.as_chunks.ensures.front_len, c.args.counts.counted.same_length, c.args.counts.counted.most) in
+    fits_from_length _ _ 128 (2 ^ 32) (at_most_from_yields_List (YieldsList-from_enumerate {s = c.map.result.iter} (YieldsList-from_slice {A = List ℕ} {s = c.map.result.iter.iter} strips (search rules)) (search rules)) few) c.map.ensures.closure (omega arith) (λ x r q k. search rules)
 
 pub returns : goal.returns
 returns c =
+    let ps = c.args.prices.now in
     let rights = c.args.counts.rights.now in
-    let n = length rights / 2 in
-    let g = priced_at c.args.prices.now (pair_sums rights) in
-    c.loop-i.invariant.0 ∙ ap (λ (k : ℕ). sum_below k g) (le_antisymm c.loop-i.auto.i-end c.loop-i-test.false)
-    ∙ priced_upto n c.args.prices.now (pair_sums rights) (sums_long n rights (omega arith))
+    let strips : List (List ℕ) = c.as_chunks.result.0.now in
+    sum_by_from_yields_List (priced ps) (enumerate_from 0 strips) c.map.result c.sum.result c.sum.ensures.ran (YieldsList-from_map _ (priced ps) (YieldsList-from_enumerate {s = c.map.result.iter} (YieldsList-from_slice {A = List ℕ} {s = c.map.result.iter.iter} strips (search rules)) (search rules)) c.map.ensures.closure (λ x s q k. search rules))
+    ∙ ap (λ xs. sum_by (priced ps) (enumerate_from 0 xs)) c.as_chunks.ensures.front
+    ∙ priced_by (length rights / 2) ps rights (omega (arith, c.args.counts.counted.same_length, c.args.counts.counted.even_length))
