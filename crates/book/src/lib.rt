@@ -42,7 +42,8 @@ fn is_listed(before: &[[u8; 6]], model: u16, revision: u16) -> bool
         .any(|e| e.model == model && e.revision == revision)
 }
 
-// The last entry of the model. By itself, since the search closes a chain that ends in `find`, and none with a `map` behind.
+// The last entry of the model. A function of its own: the proof of a chain that ends in `find` is found, of one with a `map` behind it
+// not.
 fn last_of(before: &[[u8; 6]], model: u16) -> Option<Entry>
     ensures { result ≡ find (λ e. e.model == model) (entries_in before.now) }
 {
@@ -61,7 +62,8 @@ fn latest_of(before: &[[u8; 6]], model: u16) -> Option<u16>
 }
 
 // Whether some of these entries, of which `latest` is the model's last revision, list that of the entry. Where
-// each of them replaces a lower revision (`rising`, which the entries tell), one above the last is not listed.
+// each of them replaces a lower revision (`rising`, which the entries tell), one above the last is not listed. A `bool`: it is a fact
+// about the entries, found out entry by entry.
 fn is_repeated(before: &[[u8; 6]], entry: Entry, latest: u16, rising: bool) -> bool
     requires { LastRoom (entries_in before.now) entry.model latest rising }
     ensures { result ≡ is_in entry.revision (listed_of entry.model (entries_in before.now)) }

@@ -19,7 +19,7 @@ pub fn complain(rt: &impl Print, which: &[u8], wrong: &[u8], name: &[u8]) -> io:
 }
 
 // Writes the front of `out`, as many bytes as the answer says, or the answer's refusal.
-pub fn write_answer(rt: &impl Print, out: &[u8], answer: Result<usize, Refusal>) -> io::Result<()>
+fn write_answer(rt: &impl Print, out: &[u8], answer: Result<usize, Refusal>) -> io::Result<()>
     requires { IfOk answer (λ n. n ≤ length out.now) }
 {
     match answer {
@@ -28,7 +28,21 @@ pub fn write_answer(rt: &impl Print, out: &[u8], answer: Result<usize, Refusal>)
     }
 }
 
-// Puts an argument at the start of `buf` and gives its length. One that does not fit counts as empty.
+// Runs on N bytes of memory, up to 1 MiB, and writes the answer: the front of it, or the refusal.
+pub fn print_answer<const N: usize, F: FnOnce(&mut [u8]) -> Result<usize, Refusal>>(
+    rt: &impl Print,
+    run: F,
+) -> io::Result<()>
+    requires small { N ≤ 1048576 }
+    requires called { (out : _) → length out.now ≡ N → F.pre run out }
+    requires within { (out : _) (answer : _) (left : _) → length out.now ≡ N → F.post run out answer left → IfOk answer (λ n. n ≤ length left.now) }
+{
+    let mut out = [0u8; N];
+    let answer = run(&mut out);
+    write_answer(rt, &out, answer)
+}
+
+// Puts an argument at the start of `buf` and gives its length. One that does not fit counts as empty, and an empty name opens nothing.
 pub fn argument(rt: &impl Env, place: usize, buf: &mut [u8]) -> Option<usize>
     ensures { IfSome result (λ n. n ≤ length buf.new) }
 {
@@ -72,8 +86,8 @@ pub fn open_named<R: Print + Env + Files>(
     open_argument(rt, place, which, |rt, path| fs::open(rt, path))
 }
 
-// At the end of a file that can be read a further read gives 0. Of a folder every read fails.
-fn is_unreadable(rt: &impl Print, file: &mut impl Read, which: &[u8]) -> io::Result<bool> {
+// Says so where a file cannot be read, and gives whether it cannot. At the end of one that can be read a further read gives 0; of a folder every read fails.
+fn tell_unreadable(rt: &impl Print, file: &mut impl Read, which: &[u8]) -> io::Result<bool> {
     let mut byte = [0u8; 1];
     if file.read(&mut byte).is_err() {
         complain(rt, which, b": cannot read", b"")?;
@@ -83,7 +97,7 @@ fn is_unreadable(rt: &impl Print, file: &mut impl Read, which: &[u8]) -> io::Res
 }
 
 // Reads until `buf` is full or the input ends, and gives how many bytes it put at the start of `buf`.
-pub fn read_full(from: &mut impl Read, buf: &mut [u8]) -> io::Result<usize>
+fn read_full(from: &mut impl Read, buf: &mut [u8]) -> io::Result<usize>
     ensures { IfOk result (λ n. n ≤ length buf.new) }
 {
     let mut done = 0;
@@ -111,7 +125,7 @@ pub fn read_named(
         complain(rt, which, b": cannot read", b"")?;
         return Ok(None);
     };
-    if is_unreadable(rt, file, which)? {
+    if tell_unreadable(rt, file, which)? {
         return Ok(None);
     }
     Ok(Some(n))

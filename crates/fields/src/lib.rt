@@ -11,6 +11,9 @@ use refusals::Refusal;
 pub mod ordering;
 pub mod writing;
 
+// `shape`, here and below: a shape file, else a plate list. A `bool`: with an enum each contract would need a function from it to the
+// definitions' `bool`.
+
 /// The length rule of a tag.
 #[derive(Clone, Copy, Debug, PartialEq, Eq)]
 pub enum Rule {
@@ -59,9 +62,6 @@ pub fn shape_rule(tag: u8) -> Option<Rule>
     }
 }
 
-// `shape`, here and below: a shape file, else a plate list. A `bool`, since the definitions take one: an enum of the two needs a
-// function to it in every contract.
-//
 // The rule of a tag of this kind of file.
 fn rule_of(shape: bool, tag: u8) -> Option<Rule>
     ensures { RuleIs shape tag result }
@@ -82,7 +82,8 @@ fn first_tag(shape: bool) -> u8
 
 /// The content of each field of a file, by the field's slot. Slots 0 to 6 are
 /// those of tags 01 to 07 in a plate list, 0 to 4 those of 11 to 15 in a shape
-/// file. An array, since the two kinds of file have other names for them.
+/// file.
+// An array: each kind of file names its fields in its own way.
 #[derive(Clone, Copy)]
 pub struct Slots<'a> {
     pub slots: [Option<&'a [u8]>; 7],
@@ -202,7 +203,8 @@ fn step<'a>(s: &'a [u8], shape: bool, before: Slots<'a>, lowest: u8) -> Result<M
     })
 }
 
-// The tag that the next field may not be below: this one where tags ascend (`in_order`), else none.
+// The tag that the next field may not be below: this one where tags ascend (`in_order`), else none. `in_order`, here and in `walk`: the
+// definitions have the flag, and both walks are one.
 fn lowest_after(in_order: bool, tag: u8) -> u8
     ensures { result ≡ pick in_order tag 0 }
 {
@@ -250,7 +252,7 @@ pub fn walk_older(s: &[u8], shape: bool) -> Result<Slots<'_>, Refusal>
     walk(s, shape, false)?.all_there(shape)
 }
 
-/// The first byte; 0 where there is none.
+/// The first byte; 0 where there is none, as the definition has it.
 pub fn first(bytes: &[u8]) -> u8
     ensures { result ≡ head bytes.now }
 {

@@ -13,7 +13,8 @@ fn is_shape(file: &[u8]) -> bool
     first(file) >= 0x10
 }
 
-/// Writes an older file to the front of lent memory with its fields in tag order and gives their length, or refuses as the old walk did or with 16 and changes nothing.
+/// Writes an older file to the front of lent memory with its fields in tag order and gives their length, or refuses as the old walk did
+/// or with 16 and changes nothing.
 pub fn order_fields(file: &[u8], out: &mut [u8]) -> Result<usize, Refusal>
     ensures { OrderSays file.now out.old out.new (ordered_of result) }
 {
@@ -26,7 +27,7 @@ pub fn order_fields(file: &[u8], out: &mut [u8]) -> Result<usize, Refusal>
     let mut at = 0;
     for (slot, field) in fields.slots.iter().enumerate() {
         if let Some(content) = field {
-            // As: there are seven slots.
+            // `as`: there are seven slots, and `try_from` would test it again.
             at = write_field(out, at, tag + slot as u8, content);
         }
     }

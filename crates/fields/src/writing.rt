@@ -11,7 +11,7 @@ pub fn two_bytes(v: usize) -> [u8; 2]
     requires { v < 65536 }
     ensures { result ≡ two v }
 {
-    // As: it fits, by the `requires`.
+    // `as`: it fits, by the `requires`, and `try_from` would test it again.
     (v as u16).to_be_bytes()
 }
 

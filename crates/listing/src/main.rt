@@ -1,7 +1,7 @@
 //! Reads a plate list from standard input and prints the listing of its shape, or its refusal.
 #![tactic(auto)]
 
-use console::{with_input, write_answer};
+use console::{print_answer, with_input};
 use plates::write_listing;
 use std::io;
 
@@ -9,13 +9,12 @@ use std::io;
 // of them have at most 15 each (a listing has at most 6,939 bytes). So 16 is never printed, and what is printed of
 // a list that is refused is the listing that says so.
 fn show(rt: &impl Print, list: &[u8]) -> io::Result<()> {
-    let mut text = [0u8; 8192];
-    let answer = write_listing(list, &mut text);
-    write_answer(rt, &text, answer)
+    print_answer::<8192, _>(rt, |text| write_listing(list, text))
 }
 
 // Of longer input only the first 1,024 bytes are read. No accepted list is longer than 745 bytes, so such
 // input is refused, by the number that the whole has (`Files.front`).
+// One call of what the programs share; each `main` names its own files and sizes.
 fn main(rt: HostRuntime) -> io::Result<()> {
     with_input::<1024, _, _>(&mut rt.stdin(), |list| show(&rt, list))
 }

@@ -1,5 +1,4 @@
 -- Laws that belong to no one function.
-pub mod Capped
 pub mod Words
 pub mod Forms
 pub mod Rows

@@ -50,13 +50,6 @@ pub record Going (s j u t : List ℕ) (line : ℕ) : Type 0 where
   pub rest : over_lines (going t line) (lines_of u) ≡ over_lines (going s 0) (lines_of j)
   pub few : line + length u ≤ length j
 
-pub going_start : (s : List ℕ) {j u : List ℕ} {line : ℕ} → u ≡ j → line ≡ 0 → Going s j u s line
-going_start s {j} {u} {line} u-is e =
-    record {
-      rest = ap (over_lines (going s line)) (ap lines_of u-is) ∙ ap (λ (n : ℕ). over_lines (going s n) (lines_of j)) e;
-      few = omega (arith, ap (λ (l : List ℕ). length l) u-is);
-    }
-
 pub going_done : {s j u t : List ℕ} {line : ℕ} → Going s j u t line → length u ≡ 0 → Replayed s j (going t line)
 going_done {s} {j} {u} {t} {line} g e = replayed (by u e g.rest)
   where

@@ -10,7 +10,7 @@ fn number_in(digits: &[u8]) -> Option<usize>
     ensures { result ≡ number_in digits.now }
 {
     let number = decimal(digits)?;
-    // As: no `From` takes a u32 to a usize.
+    // `as`: it is at most 65,535, and `try_from` would test it again.
     Some(number.min(65535) as usize)
 }
 

@@ -5,7 +5,7 @@
 ghost use Rattle.std.specs.Prelude.{◌≡◌, ◌≤◌, length};
 
 use crate::replay::{Replay, Stop};
-use console::{complain, open_argument, with_files, write_answer};
+use console::{complain, open_argument, print_answer, with_files};
 use plates::write_listing;
 use std::io::Write;
 use std::rt::{Env, Files};
@@ -18,18 +18,14 @@ mod replay;
 fn report(rt: &impl Print, end: &Replay, outcome: Result<(), Stop>) -> io::Result<()> {
     let line = end.line();
     match outcome {
-        Ok(()) => {
-            let mut text = [0u8; 8192];
-            let answer = write_listing(end.list(), &mut text);
-            write_answer(rt, &text, answer)
-        }
+        Ok(()) => print_answer::<8192, _>(rt, |text| write_listing(end.list(), text)),
         Err(Stop::Refused(refusal)) => println!(rt; "{refusal} at line {line}"),
         Err(Stop::NoStep) => println!(rt; "line {line}: no step"),
     }
 }
 
 // Writes the list to the file that the third argument names, and answers whether it was written.
-fn is_saved<R: Print + Env + Files>(rt: &R, list: &[u8]) -> io::Result<bool> {
+fn save<R: Print + Env + Files>(rt: &R, list: &[u8]) -> io::Result<bool> {
     let file = open_argument(rt, 3, b"file to write", |rt, path| fs::create(rt, path))?;
     let Some(mut file) = file else {
         return Ok(false);
@@ -46,7 +42,7 @@ fn finish(rt: &(impl Print + Env + Files), start: Replay, journal: &[u8]) -> io:
 {
     let mut replay = start;
     let outcome = replay.take_lines(journal);
-    if is_saved(rt, replay.list())? {
+    if save(rt, replay.list())? {
         return report(rt, &replay, outcome);
     }
     Ok(())
@@ -66,6 +62,7 @@ fn run(rt: &(impl Print + Env + Files), list: &[u8], journal: &[u8]) -> io::Resu
 }
 
 // Of a longer list only the first 1,024 bytes are read, which have the number of the whole (`Files.front`).
+// One call of what the programs share; each `main` names its own files and sizes.
 fn main(rt: HostRuntime) -> io::Result<()> {
     with_files::<1024, 65536, _, _>(&rt, b"plate list", b"journal", |list, journal| {
         run(&rt, list, journal)

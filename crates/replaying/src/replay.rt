@@ -26,8 +26,9 @@ impl From<Refusal> for Stop {
     }
 }
 
-/// An accepted list, that after the last step that was taken, and the number of lines gone over. An array with its length holds the
-/// list, since nothing is allocated.
+/// An accepted list, that after the last step that was taken, and the number of lines gone over.
+// An array with its length: `edit_list` writes into lent memory and gives the length, and a list of fixed capacity lends no place
+// behind its last element.
 #[derive(Clone, Copy)]
 pub struct Replay {
     list: [u8; 1024],

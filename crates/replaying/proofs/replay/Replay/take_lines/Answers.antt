@@ -2,26 +2,16 @@
 use mathlib.Core.Path.{◌≡◌, refl, ap, ◌∙◌}
 use mathlib.Core.List.{List}
 use Prim.Native.Nat.{ℕ}
-use native.Mathlib.Omega.{arith}
 use lib.Dec.{eqb}
 use lib.ListN.{take}
 use denote.Bor.{Bor}
 use Rattle.std.proofs.Common.{rules, Err}
-use Rattle.std.specs.Slice.Iter.{split_inclusive_rest}
 use Rattle.std.proofs.lemmas.List.Sorted.{answers_always}
 use Rattle.replaying.specs.Lines.{step_in}
 use Rattle.replaying.specs.Replays.{going, on_line}
 use Rattle.replaying.proofs.Cuts.{cut_line, cut_now}
-use Rattle.replaying.proofs.Turns.{going_start, going_on, going_ended, going_done}
+use Rattle.replaying.proofs.Turns.{going_on, going_ended, going_done}
 use Rattle.replaying.proofs.replay.Replay.take_lines.Goals as goal
-
-pub loop-line-init : goal.loop-line-init
-loop-line-init c =
-    let whole : split_inclusive_rest c.into_iter-line-iterator.result ≡ c.args.journal.now = search rules in
-    going_start (take c.args.self.now.long c.args.self.now.list) whole c.requires.0
-
-pub take_line-requires : goal.take_line-requires
-take_line-requires c = omega (arith, c.loop-line.invariant.few, c.in-Some.ensures.steps.2, c.requires.1)
 
 pub returns-in_err-take_line : goal.returns-in_err-take_line
 returns-in_err-take_line c =
