@@ -8,7 +8,7 @@ use refusals::Refusal;
 use std::io;
 use texts::read_text;
 
-// Writes the shape file of the text to the front of `out` and gives its length.
+// Writes the shape file of the text to the front of `out` and gives its length. Three slices: two files, and memory for a third.
 fn write_shape(list: &[u8], text: &[u8], out: &mut [u8]) -> Result<usize, Refusal>
     ensures { IfOk result (λ n. n ≤ length out.new) }
 {

@@ -55,6 +55,7 @@ impl Replay {
         })
     }
 
+    // The list so far. A front of an array like the turns of a plan in `texts`: one function for both would stand below both crates for one line.
     pub fn list(&self) -> &[u8]
         ensures { result.now ≡ take self.now.long self.now.list }
     {

@@ -497,7 +497,7 @@ fn show_bytes(rt: &impl Print, s: &[u8]) -> io::Result<()> {
     rt.write_all(b"\n")
 }
 
-// Puts an older file, of a case, in order, and shows the number and the bytes of the memory lent.
+// Puts an older file, of a case, in order, and shows the number and the bytes of the memory lent. A label, a file and memory: a case.
 fn order_into(rt: &impl Print, label: &[u8], s: &[u8], out: &mut [u8]) -> io::Result<()> {
     show(rt, b"order ", label, order_fields(s, out).err())?;
     show_bytes(rt, out)
