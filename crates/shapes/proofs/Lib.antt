@@ -41,6 +41,7 @@ pub mod Accepted
 pub mod HeldPlate
 pub mod Filled
 pub mod Laid
+pub mod StripArcs
 pub mod Results
 pub mod Halves
 pub mod Demands

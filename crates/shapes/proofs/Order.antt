@@ -5,10 +5,10 @@ use mathlib.Core.List.{List, [], ◌∷◌, ◌++◌}
 use mathlib.Core.Logic.{⊎_elim}
 use Prim.Native.Nat.{ℕ}
 use native.Mathlib.Omega.{arith}
-use borrow.Author.Tests.{eqb-true, ltb-true}
+use borrow.Author.Tests.{eq-eqb, eqb-true, ltb-true}
 use lib.Dec.{eqb, ltb}
 use lib.ListN.{length}
-use Rattle.finite.proofs.Tests.{not_both, or_cases, and_left, and_right}
+use Rattle.finite.proofs.Tests.{not_both, or_cases, and_left, and_right, and_both}
 use Rattle.shapes.specs.Shapes.{smaller, same}
 
 regroup : (a b c d e : Bool) → a || (b && (c || (d && e))) ≡ (a || (b && c)) || ((b && d) && e)
@@ -22,6 +22,10 @@ smaller_parts [] cs (y ∷ ys) ds e = absurd (omega arith)
 smaller_parts (x ∷ xs) cs [] ds e = absurd (omega arith)
 smaller_parts (x ∷ xs) cs (y ∷ ys) ds e =
     ap (λ (b : Bool). ltb x y || (eqb x y && b)) (smaller_parts xs cs ys ds (omega arith)) ∙ regroup (ltb x y) (eqb x y) (smaller xs ys) (same xs ys) (smaller cs ds)
+
+pub same_itself : (xs : List ℕ) → same xs xs ≡ true
+same_itself [] = refl
+same_itself (x ∷ xs) = and_both (eqb x x) (same xs xs) (eq-eqb x x refl) (same_itself xs)
 
 pub same_eq : (xs ys : List ℕ) → same xs ys ≡ true → xs ≡ ys
 same_eq [] [] e = refl

@@ -5,7 +5,7 @@ ghost use Rattle.std.specs.Prelude.{◌≡◌, true, false, ◌+◌, ◌<◌, �
 ghost use Rattle.flow.specs.Nodes.{network_from};
 ghost use Rattle.embedding.specs.Read.{meant};
 ghost use Rattle.shapes.specs.Rates.{rates};
-ghost use Rattle.shapes.specs.NetworkOf.{bend_most, rated_of};
+ghost use Rattle.shapes.specs.NetworkOf.{strip_most, rated_of};
 ghost use Rattle.shapes.specs.Entries.{node_at, outer_node, joint_at, supply_at, demand_at, bend_arc, corner_arc, node, no_arc, no_node, Begun, CornersLaid, ByArc, ByNode};
 
 use crate::rates::{StripRates, price_at};
@@ -44,28 +44,36 @@ fn face_node(q: &Plate, d: usize) -> u8
     q.posts as u8 + q.face[d]
 }
 
-// The most units across the strip of dart `d`: its limit, where 255 is none, as field 07 writes it.
-fn bend_most(limits: &[u8], d: usize) -> u16
-    ensures { result ≡ bend_most limits.now d }
+// The most units across strip `i`: its limit, where 255 is none, as field 07 writes it.
+fn strip_most(limits: &[u8], i: usize) -> u16
+    ensures { result ≡ strip_most limits.now i }
 {
-    match limits.get(d / 2) {
+    match limits.get(i) {
         Some(most) if *most < 255 => u16::from(*most),
         _ => 65535,
     }
 }
 
-// The arc of dart `d`, from its face to its twin's: a unit is a bend.
-fn bend_arc(q: &Plate, by: StripRates, d: usize) -> Arc
-    requires { d < q.now.darts }
-    ensures { result ≡ bend_arc q.now (rates by.entry.limits.now by.entry.prices.now) d }
+// The arcs of the two darts of strip `i`, from each one's face to its twin's: a unit is a bend. A limit and a price are read once for both.
+fn bend_arcs(q: &Plate, by: StripRates, i: usize) -> (Arc, Arc)
+    requires { i + i + 1 < q.now.darts }
+    ensures { (result.0 ≡ bend_arc q.now (rates by.entry.limits.now by.entry.prices.now) (i + i)) × (result.1 ≡ bend_arc q.now (rates by.entry.limits.now by.entry.prices.now) (i + i + 1)) }
 {
-    Arc {
-        tail: face_node(q, d),
-        head: face_node(q, twin_of(d)),
+    let even = Arc {
+        tail: face_node(q, i + i),
+        head: face_node(q, i + i + 1),
         lower: 0,
-        upper: bend_most(by.limits, d),
-        cost: u64::from(price_at(by.prices, d / 2)) * BEND_COST + 1,
-    }
+        upper: strip_most(by.limits, i),
+        cost: u64::from(price_at(by.prices, i)) * BEND_COST + 1,
+    };
+    (
+        even,
+        Arc {
+            tail: even.head,
+            head: even.tail,
+            ..even
+        },
+    )
 }
 
 // Does dart `d` end at a post with exactly two strip ends?
@@ -121,13 +129,15 @@ fn demand_of(q: &Plate, outer: usize, v: usize) -> u16
     if v == outer { corners + 4 } else { corners }
 }
 
-// The arcs of the darts.
+// The arcs of the darts, those of a strip together.
 fn lay_bends(q: &Plate, by: StripRates, arcs: &mut [Arc])
     requires { ByArc q.now arcs.old }
     ensures { Begun no_arc (length arcs.old) (bend_arc q.now (rates by.entry.limits.now by.entry.prices.now)) q.now.darts arcs.new }
 {
-    for d in 0..q.darts {
-        arcs[d] = bend_arc(q, by, d);
+    for i in 0..q.darts / 2 {
+        let (even, odd) = bend_arcs(q, by, i);
+        arcs[i + i] = even;
+        arcs[i + i + 1] = odd;
     }
 }
 
