@@ -39,8 +39,8 @@ no_tag k t r f = record { tag = rw (r, f); long = λ n e. absurd (subst T (sym e
 pub above_four : (t : ℕ) → (t ≡ 1 → ⊥) → (t ≡ 2 → ⊥) → (t ≡ 3 → ⊥) → (t ≡ 4 → ⊥) → 1 ≤ t → 5 ≤ t
 above_four t n1 n2 n3 n4 l = omega arith
 
-five_to_seven : (t : ℕ) → (t ≡ 5 → ⊥) → (t ≡ 6 → ⊥) → (t ≡ 7 → ⊥) → 5 ≤ t → t ≤ 7 → ⊥
-five_to_seven t n5 n6 n7 l h = omega arith
+five_to_eight : (t : ℕ) → (t ≡ 5 → ⊥) → (t ≡ 6 → ⊥) → (t ≡ 7 → ⊥) → (t ≡ 8 → ⊥) → 5 ≤ t → t ≤ 8 → ⊥
+five_to_eight t n5 n6 n7 n8 l h = omega arith
 
 pub agrees : (k : Bool) (t : ℕ) → Agrees k t
 agrees false t =
@@ -51,28 +51,30 @@ agrees false t =
     at_or (Agrees false) 5 t (record { tag = refl; long = λ n e. refl }) λ n5.
     at_or (Agrees false) 6 t (record { tag = refl; long = λ n e. refl }) λ n6.
     at_or (Agrees false) 7 t (record { tag = refl; long = λ n e. refl }) λ n7.
+    at_or (Agrees false) 8 t (record { tag = refl; long = λ n e. refl }) λ n8.
     no_tag false t
-    (simp (ne_eqb t 1 n1, ne_eqb t 2 n2, ne_eqb t 3 n3, ne_eqb t 4 n4, ne_eqb t 5 n5, ne_eqb t 6 n6, ne_eqb t 7 n7))
-    (outside 1 7 t (λ l h. five_to_seven t n5 n6 n7 (above_four t n1 n2 n3 n4 l) h))
+    (simp (ne_eqb t 1 n1, ne_eqb t 2 n2, ne_eqb t 3 n3, ne_eqb t 4 n4, ne_eqb t 5 n5, ne_eqb t 6 n6, ne_eqb t 7 n7, ne_eqb t 8 n8))
+    (outside 1 8 t (λ l h. five_to_eight t n5 n6 n7 n8 (above_four t n1 n2 n3 n4 l) h))
 agrees true t =
     at_or (Agrees true) 17 t (record { tag = refl; long = λ n e. refl }) λ n17.
     at_or (Agrees true) 18 t (record { tag = refl; long = λ n e. refl }) λ n18.
     at_or (Agrees true) 19 t (record { tag = refl; long = λ n e. refl }) λ n19.
     at_or (Agrees true) 20 t (record { tag = refl; long = λ n e. refl }) λ n20.
     at_or (Agrees true) 21 t (record { tag = refl; long = λ n e. refl }) λ n21.
+    at_or (Agrees true) 22 t (record { tag = refl; long = λ n e. refl }) λ n22.
     no_tag true t
-    (simp (outside 17 18 t (omega arith), outside 19 20 t (omega arith), ne_eqb t 21 n21))
-    (outside 17 21 t (omega arith))
+    (simp (outside 17 18 t (omega arith), outside 19 20 t (omega arith), ne_eqb t 21 n21, ne_eqb t 22 n22))
+    (outside 17 22 t (omega arith))
 
 -- a tag of a file stands in the file's range
-pub tag_from : (k : Bool) (t : ℕ) → tag_ok k t ≡ true → (first_tag k ≤ t) × (t < first_tag k + 7)
+pub tag_from : (k : Bool) (t : ℕ) → tag_ok k t ≡ true → (first_tag k ≤ t) × (t < first_tag k + 8)
 tag_from true t e =
-    let (a, b) = and_parts (leb 17 t) (leb t 21) e in
+    let (a, b) = and_parts (leb 17 t) (leb t 22) e in
     let l : 17 ≤ t = leb-true 17 t a in
-    let h : t ≤ 21 = leb-true t 21 b in
+    let h : t ≤ 22 = leb-true t 22 b in
     omega arith
 tag_from false t e =
-    let (a, b) = and_parts (leb 1 t) (leb t 7) e in
+    let (a, b) = and_parts (leb 1 t) (leb t 8) e in
     let l : 1 ≤ t = leb-true 1 t a in
-    let h : t ≤ 7 = leb-true t 7 b in
+    let h : t ≤ 8 = leb-true t 8 b in
     omega arith

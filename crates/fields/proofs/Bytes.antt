@@ -8,7 +8,7 @@ use lib.Dec.{ltb}
 use lib.ListN.{length, take, drop}
 use borrow.Author.Tests.{lt-ltb}
 use Rattle.finite.proofs.Tests.{and_left, and_right, and_both}
-use Rattle.fields.specs.Files.{two, field}
+use Rattle.fields.specs.Files.{two, four, field}
 use Rattle.fields.specs.Writing.{all_bytes}
 
 pub bytes_take : (n : ℕ) (s : List ℕ) → all_bytes s ≡ true → all_bytes (take n s) ≡ true
@@ -27,6 +27,9 @@ bytes_append (x ∷ xs) t e h = and_both (ltb x 256) _ (and_left (ltb x 256) (al
 
 pub bytes_two : (v : ℕ) → v < 65536 → all_bytes (two v) ≡ true
 bytes_two v l = and_both _ _ (lt-ltb (v / 256) 256 (omega arith)) (and_both _ true (lt-ltb (v % 256) 256 (omega arith)) refl)
+
+pub bytes_four : (v : ℕ) → v < 4294967296 → all_bytes (four v) ≡ true
+bytes_four v l = bytes_append (two (v / 65536)) (two (v % 65536)) (bytes_two (v / 65536) (omega arith)) (bytes_two (v % 65536) (omega arith))
 
 pub bytes_field : (t : ℕ) (c : List ℕ) → t < 256 → length c < 65536 → all_bytes c ≡ true → all_bytes (field t c) ≡ true
 bytes_field t c l k e = and_both _ _ (lt-ltb t 256 l) (bytes_append (two (length c)) c (bytes_two (length c) k) e)

@@ -8,7 +8,7 @@ use lib.Dec.{ltb}
 use lib.ListN.{length, drop, take, length-append}
 use lib.Seq.{take_at, drop_at}
 use borrow.Author.Tests.{eq-eqb, ne_eqb}
-use Rattle.fields.specs.Files.{Field, tag_ok, long_ok, has_tag, add_field, last_tag, head_long, fault_by, field_at, fields_by, two, field}
+use Rattle.fields.specs.Files.{Field, tag_ok, is_known, long_ok, has_tag, add_field, last_tag, head_long, fault_by, field_at, fields_by, two, field}
 use Rattle.fields.specs.Says.{word}
 use Rattle.fields.proofs.Turns.{from_met, no_fault}
 
@@ -35,11 +35,11 @@ module _ (t : ℕ) (c rest : List ℕ) where
   pub front_rest : drop (3 + head_long s) s ≡ rest
   front_rest = drop_at (field t c) rest (3 + head_long s) (omega (arith, head-long))
 
-  module _ (o k : Bool) (fs : List Field) (tag : tag_ok k t ≡ true) (new : has_tag t fs ≡ false) (above : (o && ltb t (last_tag fs)) ≡ false) (long : long_ok k t (length c) ≡ true) where
+  module _ (o k : Bool) (fs : List Field) (known : is_known o k t ≡ true) (tag : tag_ok k t ≡ true) (new : has_tag t fs ≡ false) (above : (o && ltb t (last_tag fs)) ≡ false) (long : long_ok k t (length c) ≡ true) where
     pub front-fault : fault_by o k fs s ≡ 0
     front-fault =
-        no_fault k (has_tag t fs) (o && ltb t (last_tag fs)) s
-        (record { tag = tag; new = new; above = above; long = ap (long_ok k t) head-long ∙ long; size = omega (arith, whole_long, head-long) })
+        no_fault o k (has_tag t fs) (o && ltb t (last_tag fs)) s
+        (record { known = known; tag = tag; new = new; above = above; long = ap (long_ok k t) head-long ∙ long; size = omega (arith, whole_long, head-long) })
 
     pub front_met : (l : ℕ) → fields_by o (suc l) k fs s ≡ fields_by o l k (add_field fs (met_field t c)) rest
     front_met l =

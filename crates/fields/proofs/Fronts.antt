@@ -1,4 +1,4 @@
--- A walk ends within the room that the fields of a file may take, and one head more: the first 748 bytes of a file have the number of the whole.
+-- A walk ends within the room that the fields of a file may take, and one head more: the first 879 bytes of a file have the number of the whole.
 -- Assumes nothing.
 use mathlib.Core.Path.{◌≡◌, refl, sym, ap, ap₂, subst, ◌∙◌}
 use mathlib.Core.Bool.{Bool, true, false, ◌&&◌, not}
@@ -10,9 +10,10 @@ use lib.ListN.{length, get_or, take, drop, length-drop}
 use lib.Seq.{length-take-le, take_all, take-add, take-take, drop_at, get_or-take}
 use borrow.Author.Tests.{eqb-true, eqb-false, ne_eqb, ltb-true, ltb-false, le-ltb, not-false}
 use Rattle.finite.specs.Base.{first_of, when}
-use Rattle.finite.proofs.Tests.{first_same, first_some, when_none}
-use Rattle.fields.specs.Files.{Field, Walk, tag_ok, long_ok, has_tag, add_field, head_long, last_tag, fault_by, field_at, fields_by, walk_by, old_walk}
+use Rattle.finite.proofs.Tests.{and_parts, first_same, first_some, when_none}
+use Rattle.fields.specs.Files.{Field, Walk, tag_ok, is_known, tag_in, long_ok, has_tag, add_field, head_long, last_tag, fault_by, field_at, fields_by, walk_by, old_walk}
 use Rattle.fields.specs.Ordering.{Ordered, is_shape_file, order_fault, OrderWith, OrderSays}
+use Rattle.fields.proofs.Agree.{tag_from}
 use Rattle.fields.proofs.Longest.{room, front_takes, older_longest}
 use Rattle.fields.proofs.Turns.{from_fault, from_met, passed_by}
 
@@ -21,7 +22,7 @@ drop_front : {A : Type 0} (m j : ℕ) (l : List A) → m ≤ length l → drop m
 drop_front m j l h = ap (drop m) (take-add m j l) ∙ drop_at (take m l) (take j (drop m l)) m (length-take-le m l h)
 
 -- the first n bytes of a longer file, with room for the fields to come and one head
-module _ (o k : Bool) (fs : List Field) (s : List ℕ) (n : ℕ) (enough : room 7 k fs + 3 ≤ n) (more : n < length s) where
+module _ (o k : Bool) (fs : List Field) (s : List ℕ) (n : ℕ) (enough : room 8 k fs + 3 ≤ n) (more : n < length s) where
   abbrev t : ℕ
   t = get_or s 0 0
 
@@ -40,7 +41,7 @@ module _ (o k : Bool) (fs : List Field) (s : List ℕ) (n : ℕ) (enough : room 
   -- a field's fault by the bytes that are left, its tag and its length: 1, and those behind it
   abbrev behind_1 : ℕ → ℕ → ℕ → ℕ
   behind_1 left u m =
-      first_of (when (not (tag_ok k u)) 2)
+      first_of (when (not (tag_in o k u)) 2)
       (first_of (when (has_tag u fs) 3)
       (first_of (when (o && ltb u (last_tag fs)) 29)
       (first_of (when (not (long_ok k u m)) 4)
@@ -50,14 +51,15 @@ module _ (o k : Bool) (fs : List Field) (s : List ℕ) (n : ℕ) (enough : room 
   fault-by left u m = first_of (when (ltb left 3) 1) (behind_1 left u m)
 
   -- 5 is tried of a field that has room
-  same_five : when (not (tag_ok k t)) 2 ≡ 0 → when (has_tag t fs) 3 ≡ 0 → when (not (long_ok k t h)) 4 ≡ 0 → when (ltb n (3 + h)) 5 ≡ when (ltb (length s) (3 + h)) 5
+  same_five : when (not (tag_in o k t)) 2 ≡ 0 → when (has_tag t fs) 3 ≡ 0 → when (not (long_ok k t h)) 4 ≡ 0 → when (ltb n (3 + h)) 5 ≡ when (ltb (length s) (3 + h)) 5
   same_five a b c =
-      let fits = front_takes k fs s (not-false (tag_ok k t) (when_none _ 1 a)) (when_none _ 2 b) (not-false (long_ok k t h) (when_none _ 3 c)) in
+      let tag : tag_ok k t ≡ true = (and_parts (is_known o k t) (tag_ok k t) (not-false (tag_in o k t) (when_none _ 1 a))).1 in
+      let fits = front_takes k fs s 8 (tag_from k t tag).1 tag (when_none _ 2 b) (not-false (long_ok k t h) (when_none _ 3 c)) in
       ap (λ (x : Bool). when x 5) (le-ltb n (3 + h) (omega arith) ∙ sym (le-ltb (length s) (3 + h) (omega arith)))
 
   same_behind : behind_1 n t h ≡ behind_1 (length s) t h
   same_behind =
-      first_same (when (not (tag_ok k t)) 2) _ _ (λ a. first_same (when (has_tag t fs) 3) _ _
+      first_same (when (not (tag_in o k t)) 2) _ _ (λ a. first_same (when (has_tag t fs) 3) _ _
       (λ b. first_same (when (o && ltb t (last_tag fs)) 29) _ _ (λ c. first_same (when (not (long_ok k t h)) 4) _ _ (same_five a b))))
 
   same_by : fault-by n t h ≡ fault-by (length s) t h
@@ -82,7 +84,7 @@ module _ (o k : Bool) (fs : List Field) (s : List ℕ) (n : ℕ) (enough : room 
         let e : 3 + h + (n - (3 + h)) ≡ n = omega arith in
         ap (λ (x : ℕ). drop (3 + x) (take n s)) same_head ∙ ap (λ (x : ℕ). drop (3 + h) (take x s)) (sym e) ∙ drop_front (3 + h) (n - (3 + h)) s (omega arith)
 
-front_from : (o k : Bool) (i l : ℕ) (fs : List Field) (s : List ℕ) (n : ℕ) → n < i → length s < l → room 7 k fs + 3 ≤ n → n < length s → (fields_by o i k fs (take n s)).number ≡ (fields_by o l k fs s).number
+front_from : (o k : Bool) (i l : ℕ) (fs : List Field) (s : List ℕ) (n : ℕ) → n < i → length s < l → room 8 k fs + 3 ≤ n → n < length s → (fields_by o i k fs (take n s)).number ≡ (fields_by o l k fs s).number
 front_from o k zero l fs s n a b enough more = absurd (omega arith)
 front_from o k (suc i) zero fs s n a b enough more = absurd (omega arith)
 front_from o k (suc i) (suc l) fs s n a b enough more =
@@ -98,14 +100,14 @@ front_from o k (suc i) (suc l) fs s n a b enough more =
     same = same_fault o k fs s n enough more
 
     go : (b : Bool) → eqb (fault_by o k fs s) 0 ≡ b
-        → (n - (3 + head_long s) < i → length (drop (3 + head_long s) s) < l → room 7 k (add_field fs (field_at s)) + 3 ≤ n - (3 + head_long s) → n - (3 + head_long s) < length (drop (3 + head_long s) s)
+        → (n - (3 + head_long s) < i → length (drop (3 + head_long s) s) < l → room 8 k (add_field fs (field_at s)) + 3 ≤ n - (3 + head_long s) → n - (3 + head_long s) < length (drop (3 + head_long s) s)
         → (fields_by o i k (add_field fs (field_at s)) (take (n - (3 + head_long s)) (drop (3 + head_long s) s))).number ≡ (fields_by o l k (add_field fs (field_at s)) (drop (3 + head_long s) s)).number)
         → (fields_by o (suc i) k fs (take n s)).number ≡ (fields_by o (suc l) k fs s).number
     go false q ih =
         ap number (from_fault o i k fs (take n s) (front_left o k fs s n enough more) (ap (λ (x : ℕ). eqb x 0) same ∙ q)) ∙ same ∙ sym (ap number (from_fault o l k fs s left q))
     go true q ih =
         let p = passed_by o k fs s (eqb-true (fault_by o k fs s) 0 q) in
-        let takes = front_takes k fs s p.tag p.new p.long in
+        let takes = front_takes k fs s 8 (tag_from k (get_or s 0 0) p.tag).1 p.tag p.new p.long in
         let fits : 3 + head_long s ≤ n = omega arith in
         let rest = length-drop (3 + head_long s) s in
         ap number (from_met o i k fs (take n s) (front_left o k fs s n enough more) (ap (λ (x : ℕ). eqb x 0) same ∙ q))
@@ -113,11 +115,11 @@ front_from o k (suc i) (suc l) fs s n a b enough more =
         ∙ ih (omega arith) (omega arith) (omega arith) (omega arith)
         ∙ sym (ap number (from_met o l k fs s left q))
 
-none_room : (k : Bool) → room 7 k [] ≤ 745
+none_room : (k : Bool) → room 8 k [] ≤ 876
 none_room true = omega arith
 none_room false = omega arith
 
-pub walk_front : (o k : Bool) (n : ℕ) (s : List ℕ) → 748 ≤ n → (walk_by o k (take n s)).number ≡ (walk_by o k s).number
+pub walk_front : (o k : Bool) (n : ℕ) (s : List ℕ) → 879 ≤ n → (walk_by o k (take n s)).number ≡ (walk_by o k s).number
 walk_front o k n s m = go (ltb n (length s)) refl
   where
     go : (b : Bool) → ltb n (length s) ≡ b → (walk_by o k (take n s)).number ≡ (walk_by o k s).number

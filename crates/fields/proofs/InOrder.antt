@@ -6,7 +6,7 @@ use Prim.Native.Nat.{ℕ, zero, suc, ◌+◌, ◌≤◌, ◌<◌}
 use native.Mathlib.Nat.{le_dest}
 use native.Mathlib.Numerals.{add-one}
 use native.Mathlib.Omega.{arith}
-use Rattle.std.specs.Prelude.{Result, Some, None, Ok, Err, IfOk, is_some, unwrap_or, option_map}
+use Rattle.std.specs.Prelude.{Result, Some, None, Ok, Err, IfOk, option_map}
 use denote.Bor.{Bor}
 use lib.ListN.{length, get_or, drop, length-append}
 use borrow.Author.Tests.{lt-ltb, le-ltb}
@@ -18,7 +18,7 @@ use Rattle.fields.specs.Says.{HoldsBy}
 use Rattle.fields.specs.Writing.{Written}
 use Rattle.fields.specs.Ordering.{field_of, rising, sorted, bytes_in, is_shape_file, ordered_bytes, order_fault, Ordered, ordered_of, OrderWith, OrderSays}
 use Rattle.fields.specs.declared.Slots.{Slots}
-use Rattle.fields.proofs.Added.{is_some-content_at, unwrap_or-content_at}
+use Rattle.fields.proofs.Added.{there_by, content_by}
 use Rattle.fields.proofs.Longest.{older_longest}
 use Rattle.fields.proofs.Puts.{put_front, field_long, written_none, written_then}
 use Rattle.fields.proofs.Rising.{rising_more, bytes_row, more_long, rising_most}
@@ -31,26 +31,26 @@ module _ (t : ℕ) (fs : List Field) where
 
   bytes_there : (c : List ℕ) → content_at t fs ≡ Some c → bytes ≡ field t c
   bytes_there c e =
-      let h : has_tag t fs ≡ true = sym (is_some-content_at t fs) ∙ ap is_some e in
-      let d : content_of t fs ≡ c = sym (unwrap_or-content_at t fs) ∙ ap (λ o. unwrap_or o []) e in
+      let h : has_tag t fs ≡ true = sym (there_by t fs (sym e)) in
+      let d : content_of t fs ≡ c = sym (content_by t fs (sym e)) in
       rw (h, d) (append-nil (field t c))
 
   bytes_absent : content_at t fs ≡ None → bytes ≡ []
-  bytes_absent e = let h : has_tag t fs ≡ false = sym (is_some-content_at t fs) ∙ ap is_some e in rw h
+  bytes_absent e = let h : has_tag t fs ≡ false = sym (there_by t fs (sym e)) in rw h
 
 module _ {k : Bool} {s : List ℕ} {f : Slots} (w : HoldsBy false k s (Ok f)) where
   abbrev fs : List Field
   fs = (old_walk k s).fields
 
   -- room for the fields of the first slots
-  slot_room : (i : ℕ) → i < 7 → length (bytes_in (rising i (first_tag k) fs)) + length (bytes (tag_at k i) fs) ≤ length s
+  slot_room : (i : ℕ) → i < 8 → length (bytes_in (rising i (first_tag k) fs)) + length (bytes (tag_at k i) fs) ≤ length s
   slot_room i h =
       let (d, p) = le_dest h in
-      let e : suc i + d ≡ 7 = p in
+      let e : suc i + d ≡ 8 = p in
       let m : length (bytes_in (rising (suc i + d) (first_tag k) fs)) ≡ length (bytes_in (sorted k fs)) = ap (λ (n : ℕ). length (bytes_in (rising n (first_tag k) fs))) e in
       omega (arith, more_long i (first_tag k) fs, rising_most (suc i) d (first_tag k) fs, m, sorted_size k s (sym w.number))
 
-  module _ (i : ℕ) (h : i < 7) {out mid : List ℕ} {m : ℕ} (a : Written 0 (bytes_in (rising i (first_tag k) fs)) out mid m) where
+  module _ (i : ℕ) (h : i < 8) {out mid : List ℕ} {m : ℕ} (a : Written 0 (bytes_in (rising i (first_tag k) fs)) out mid m) where
     -- one slot more written
     slot_written : {last : List ℕ} {n : ℕ} → Written m (bytes (tag_at k i) fs) mid last n → Written 0 (bytes_in (rising (i + 1) (first_tag k) fs)) out last n
     slot_written {last} {n} b =

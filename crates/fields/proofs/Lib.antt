@@ -11,10 +11,11 @@ pub mod Bytes
 pub mod Laid
 pub mod Runs
 pub mod Ascent
+pub mod Comes
 pub mod Rising
 pub mod RunBytes
 pub mod Sorted
-pub mod SixTags
+pub mod Earlier
 pub mod Replaced
 pub mod Remarked
 pub mod PassedOver

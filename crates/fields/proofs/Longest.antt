@@ -8,11 +8,11 @@ use Rattle.std.specs.Prelude.{Option, Some, None}
 use native.Mathlib.Omega.{arith}
 use lib.Dec.{T, eqb, leb}
 use lib.ListN.{length, get_or, drop, length-drop}
-use borrow.Author.Tests.{eqb-true, eqb-false, leb-true, ne_eqb}
+use borrow.Author.Tests.{eqb-true, eqb-false, leb-true, ne_eqb, not-true}
 use Rattle.finite.specs.Base.{pick}
 use Rattle.finite.proofs.Tests.{and_parts}
-use Rattle.fields.specs.Files.{Field, Walk, tag_ok, long_ok, has_tag, add_field, head_long, fault_by, field_at, fields_by, walk_all, old_walk}
-use Rattle.fields.specs.Rules.{allowed, rule_of, slot_of, tag_at}
+use Rattle.fields.specs.Files.{Field, Walk, tag_ok, is_known, long_ok, has_tag, add_field, head_long, fault_by, field_at, fields_by, walk_all, old_walk}
+use Rattle.fields.specs.Rules.{allowed, rule_of, first_tag, slot_of, tag_at}
 use Rattle.fields.specs.declared.Rule.{Rule}
 use Rattle.fields.specs.declared.Rule.TheVariants.{Exactly, EvenUpTo, UpTo}
 use Rattle.fields.proofs.Agree.{agrees, tag_from}
@@ -79,25 +79,41 @@ module _ (k : Bool) (fs : List Field) (s : List ℕ) where
   abbrev t : ℕ
   t = get_or s 0 0
 
-  pub front_takes : tag_ok k t ≡ true → has_tag t fs ≡ false → long_ok k t (head_long s) ≡ true → room 7 k (add_field fs (field_at s)) + (3 + head_long s) ≤ room 7 k fs
-  front_takes tag new long =
+  pub front_takes : (n : ℕ) → t < first_tag k + n → tag_ok k t ≡ true → has_tag t fs ≡ false → long_ok k t (head_long s) ≡ true → room n k (add_field fs (field_at s)) + (3 + head_long s) ≤ room n k fs
+  front_takes n below tag new long =
       let b = tag_from k t tag in
       let i = slot_of k t in
       let own : tag_at k i ≡ t = omega arith in
-      let low : i < 7 = omega arith in
+      let low : i < n = omega arith in
       omega (
         arith,
-        room_less k fs (field_at s) new i own 7 low,
+        room_less k fs (field_at s) new i own n low,
         kept_room (rule_of k t) (head_long s) ((agrees k t).long (head_long s) tag ∙ long),
       )
 
-longest_from : (o : Bool) (l : ℕ) (k : Bool) (fs : List Field) (s : List ℕ) → length s < l → (fields_by o l k fs s).number ≡ 0 → length s ≤ room 7 k fs
+-- how many tags a walk may take, from the first one on: in any order not the last of a list
+abbrev tags_of : Bool → ℕ
+tags_of o = pick o 8 7
+
+tag_below : (o k : Bool) (t : ℕ) → is_known o k t ≡ true → tag_ok k t ≡ true → t < first_tag k + tags_of o
+tag_below true k t known tag = (tag_from k t tag).1
+tag_below false true t known tag =
+    let (a, b) = and_parts (leb 17 t) (leb t 22) tag in
+    let h : t ≤ 22 = leb-true t 22 b in
+    omega arith
+tag_below false false t known tag =
+    let other : t ≡ 8 → ⊥ = eqb-false t 8 (not-true (eqb t 8) known) in
+    let (a, b) = and_parts (leb 1 t) (leb t 8) tag in
+    let h : t ≤ 8 = leb-true t 8 b in
+    omega arith
+
+longest_from : (o : Bool) (l : ℕ) (k : Bool) (fs : List Field) (s : List ℕ) → length s < l → (fields_by o l k fs s).number ≡ 0 → length s ≤ room (tags_of o) k fs
 longest_from o zero k fs s h e = absurd (omega arith)
 longest_from o (suc l) k fs s h e = go (eqb (length s) 0) refl (eqb (fault_by o k fs s) 0) refl (longest_from o l k (add_field fs (field_at s)) (drop (3 + head_long s) s))
   where
     go : (a : Bool) → eqb (length s) 0 ≡ a → (b : Bool) → eqb (fault_by o k fs s) 0 ≡ b
-        → (length (drop (3 + head_long s) s) < l → (fields_by o l k (add_field fs (field_at s)) (drop (3 + head_long s) s)).number ≡ 0 → length (drop (3 + head_long s) s) ≤ room 7 k (add_field fs (field_at s)))
-        → length s ≤ room 7 k fs
+        → (length (drop (3 + head_long s) s) < l → (fields_by o l k (add_field fs (field_at s)) (drop (3 + head_long s) s)).number ≡ 0 → length (drop (3 + head_long s) s) ≤ room (tags_of o) k (add_field fs (field_at s)))
+        → length s ≤ room (tags_of o) k fs
     go true p b q ih = let z : length s ≡ 0 = eqb-true (length s) 0 p in omega arith
     go false p false q ih =
         let n : fault_by o k fs s ≡ 0 = sym (ap (λ (w : Walk). w.number) (from_fault o l k fs s p q)) ∙ e in
@@ -108,15 +124,15 @@ longest_from o (suc l) k fs s h e = go (eqb (length s) 0) refl (eqb (fault_by o 
         let f = passed_by o k fs s ok in
         let fits = f.size in
         let less = ih (omega arith) (sym (ap (λ (w : Walk). w.number) (from_met o l k fs s p q)) ∙ e) in
-        omega (arith, front_takes k fs s f.tag f.new f.long)
+        omega (arith, front_takes k fs s (tags_of o) (tag_below o k (get_or s 0 0) f.known f.tag) f.tag f.new f.long)
 
-pub list_longest : (s : List ℕ) → (walk_all false s).number ≡ 0 → length s ≤ 745
+pub list_longest : (s : List ℕ) → (walk_all false s).number ≡ 0 → length s ≤ 876
 list_longest s e = longest_from true (suc (length s)) false [] s (omega arith) e
 
-pub shape_longest : (s : List ℕ) → (walk_all true s).number ≡ 0 → length s ≤ 611
+pub shape_longest : (s : List ℕ) → (walk_all true s).number ≡ 0 → length s ≤ 618
 shape_longest s e = longest_from true (suc (length s)) true [] s (omega arith) e
 
--- in any order too
+-- in any order, where lists have no prices
 pub older_longest : (k : Bool) (s : List ℕ) → (old_walk k s).number ≡ 0 → length s ≤ 745
-older_longest true s e = let l : length s ≤ 611 = longest_from false (suc (length s)) true [] s (omega arith) e in omega arith
+older_longest true s e = let l : length s ≤ 618 = longest_from false (suc (length s)) true [] s (omega arith) e in omega arith
 older_longest false s e = longest_from false (suc (length s)) false [] s (omega arith) e

@@ -1,9 +1,9 @@
 -- Slots by name: each content is that of its tag, and 6 is given where one is absent. Assumes nothing.
 use mathlib.Core.Path.{◌≡◌, sym, subst, ap, ◌∙◌}
 use mathlib.Core.Bool.{Bool, true, false, not}
-use mathlib.Core.List.{List, []}
+use mathlib.Core.List.{List}
 use Prim.Native.Nat.{ℕ, ◌<◌}
-use Rattle.std.specs.Prelude.{Some, None, Result, Ok, unwrap_or, option_map}
+use Rattle.std.specs.Prelude.{Some, None, Result, Ok, option_map}
 use Rattle.std.proofs.lemmas.Result.{IfOk-weaker}
 use denote.Bor.{Bor}
 use lib.Dec.{lit<}
@@ -16,15 +16,15 @@ use Rattle.fields.specs.Says.{SlotsOf, FieldsMet, HoldsBy, ListNamed, ShapeNamed
 use Rattle.fields.specs.declared.Slots.{Slots}
 use Rattle.fields.specs.declared.ListFields.{ListFields}
 use Rattle.fields.specs.declared.ShapeFields.{ShapeFields}
-use Rattle.fields.proofs.Added.{unwrap_or-content_at}
+use Rattle.fields.proofs.Added.{content_by}
 use Rattle.fields.proofs.Walked.{all_of}
 
 module _ {k : Bool} {fs : List Field} {f : Slots} (h : SlotsOf k fs f) where
   -- the content of a slot that is not empty
-  pub content_is : (i : ℕ) → i < 7 → (c : Bor (List ℕ)) → Some c ≡ get_or f.slots i None → c.now ≡ content_of (tag_at k i) fs
+  pub content_is : (i : ℕ) → i < 8 → (c : Bor (List ℕ)) → Some c ≡ get_or f.slots i None → c.now ≡ content_of (tag_at k i) fs
   content_is i l c e =
       let o : Some c.now ≡ option_map (λ c. c.now) (get_or f.slots i None) = ap (option_map (λ c. c.now)) e in
-      ap (λ o. unwrap_or o []) (o ∙ h.slot i l) ∙ unwrap_or-content_at (tag_at k i) fs
+      content_by (tag_at k i) fs (o ∙ h.slot i l)
 
 list_named : {fs : List Field} {f : Slots} → SlotsOf false fs f → (g : ListFields) → ListNamed f g → ListFieldsOf fs g
 list_named h g n =
@@ -35,6 +35,7 @@ list_named h g n =
       order = content_is h 3 (lit< tt) g.order n.order;
       outer = content_is h 4 (lit< tt) g.outer n.outer;
       limits = ap (option_map (λ c. c.now)) n.limits ∙ h.slot 6 (lit< tt);
+      prices = ap (option_map (λ c. c.now)) n.prices ∙ h.slot 7 (lit< tt);
     }
 
 shape_named : {fs : List Field} {f : Slots} → SlotsOf true fs f → (g : ShapeFields) → ShapeNamed f g → ShapeFieldsOf fs g
@@ -44,6 +45,7 @@ shape_named h g n =
       total = content_is h 1 (lit< tt) g.total n.total;
       angles = content_is h 2 (lit< tt) g.angles n.angles;
       rights = content_is h 3 (lit< tt) g.rights n.rights;
+      sum = ap (option_map (λ c. c.now)) n.sum ∙ h.slot 5 (lit< tt);
     }
 
 -- slots that the walk met, with 6 where one is absent: the walk's answer

@@ -49,7 +49,7 @@ module _ {k : Bool} where
       let b = passed_by true k fs s e in
       let up : p < t = ltb-true p t (and_left (ltb p t) (ascends t more) a) in
       let now : fault_by true k gs s ≡ 0 =
-      no_fault k (has_tag t gs) (ltb t (last_tag gs)) s (record { tag = b.tag; new = h t up; above = le-ltb t (last_tag gs) (omega arith); long = b.long; size = b.size }) in
+      no_fault true k (has_tag t gs) (ltb t (last_tag gs)) s (record { known = refl; tag = b.tag; new = h t up; above = le-ltb t (last_tag gs) (omega arith); long = b.long; size = b.size }) in
       met now
       (run_above t (add_field fs (field_at s)) (add_field gs (field_at s)) (drop (3 + head_long s) s) more r (and_right (ltb p t) (ascends t more) a)
       (omega (arith, last_add gs (field_at s))) (λ u m. has_other u (field_at s) (ne_eqb u t (omega arith)) gs ∙ h u (omega arith)))
@@ -105,7 +105,7 @@ module _ {k : Bool} where
         run = rest.run;
         again = λ y ms q.
             subst (λ (x : List ℕ). Run true k fs x (g ∷ (gs ++ ms))) (sym (append_assoc (field t c) (bytes_in gs) y))
-            (run_front fs t c (bytes_in gs ++ y) (gs ++ ms) f.tag-ok f.new f.above f.long (rest.again y ms q));
+            (run_front fs t c (bytes_in gs ++ y) (gs ++ ms) refl f.tag-ok f.new f.above f.long (rest.again y ms q));
       }
 
 -- ---- fields with and without one field
@@ -217,7 +217,7 @@ module _ (k : Bool) (fs : List Field) (c y : List ℕ) where
     run_with : Run true k [] (remarked k fs c y) (fs ++ (f ∷ ns))
     run_with =
         rest.again (field r c ++ y) (f ∷ ns)
-        (run_front have r c y ns (remark-tag k) (absent r below) (le-ltb r (last_tag have) (omega (arith, ap last_tag have_all))) fits
+        (run_front have r c y ns refl (remark-tag k) (absent r below) (le-ltb r (last_tag have) (omega (arith, ap last_tag have_all))) fits
         (run_above r have (add_field have f) y ns rest.run (later ns rest.run then) (omega (arith, last_add have f))
         (λ u l. has_other u f (ne_eqb u r (omega arith)) have ∙ absent u (omega arith))))
 

@@ -10,10 +10,10 @@ use lib.Dec.{ltb, leb}
 use lib.ListN.{length, get_or, drop}
 use borrow.Author.Tests.{eq-eqb, ne_eqb, ltb-true, ltb-false, leb-true, leb-false, le-ltb, lt-ltb, le-leb, lt-leb}
 use Rattle.finite.proofs.Tests.{not_both, and_right, and_both, not_true_false, equal_or_not}
-use Rattle.fields.specs.Files.{Field, Walk, walk, tag_ok, long_ok, has_tag, content_of, add_field, all_there, head_long, last_tag, field_at, walk_by, walk_all, old_walk, field}
+use Rattle.fields.specs.Files.{Field, Walk, walk, price_tag, tag_ok, is_known, long_ok, has_tag, content_of, add_field, all_there, head_long, last_tag, field_at, walk_by, walk_all, old_walk, field}
 use Rattle.fields.specs.Rules.{first_tag}
 use Rattle.fields.specs.Writing.{all_bytes}
-use Rattle.fields.specs.Ordering.{rising, sorted, bytes_in, is_shape_file, ordered_bytes, SameFields, ascends, Taken, TagOrder}
+use Rattle.fields.specs.Ordering.{rising, sorted, bytes_in, is_shape_file, ordered_bytes, any_walk, SameFields, ascends, Taken, TagOrder}
 use Rattle.fields.proofs.Agree.{tag_from}
 use Rattle.fields.proofs.Added.{has_other, last_add}
 use Rattle.fields.proofs.FrontField.{met_field, front_field, front_rest, front-fault}
@@ -22,18 +22,19 @@ use Rattle.fields.proofs.Laid.{LaidOut, TagsOk, all_laid, all_tags}
 use Rattle.fields.proofs.Turns.{passed_by, older_few}
 use Rattle.fields.proofs.Runs.{Run, ended, met, add_all, all_append, Whole, run_answer, whole_of}
 use Rattle.fields.proofs.RunBytes.{run_long, run_bytes}
-use Rattle.fields.proofs.Ascent.{walks_same, run_ascends, run_in_order}
+use Rattle.fields.proofs.Ascent.{any_same, walks_same, run_ascends, run_in_order}
+use Rattle.fields.proofs.Comes.{old_refuses, priced_comes, old_unpriced, old_comes, priced_two}
 use Rattle.fields.proofs.Rising.{rising_there, rising_absent, rising_none, rising_same, SameAt, absent_same, rising_other, rising_at, rising_up, rising_fixed, rising_add, bytes_cons_long}
 
 -- ---- a field at the front makes a run one longer
-pub run_front : {o k : Bool} (fs : List Field) (t : ℕ) (c rest : List ℕ) (more : List Field) → tag_ok k t ≡ true → has_tag t fs ≡ false → (o && ltb t (last_tag fs)) ≡ false → long_ok k t (length c) ≡ true
+pub run_front : {o k : Bool} (fs : List Field) (t : ℕ) (c rest : List ℕ) (more : List Field) → is_known o k t ≡ true → tag_ok k t ≡ true → has_tag t fs ≡ false → (o && ltb t (last_tag fs)) ≡ false → long_ok k t (length c) ≡ true
     → Run o k (add_field fs (met_field t c)) rest more → Run o k fs (field t c ++ rest) (met_field t c ∷ more)
-run_front {o} {k} fs t c rest more tag new above long r =
+run_front {o} {k} fs t c rest more known tag new above long r =
     let s = field t c ++ rest in
     let f : field_at s ≡ met_field t c = front_field t c rest in
     let r' : Run o k (add_field fs (field_at s)) (drop (3 + head_long s) s) more =
     subst₂ (λ (x : Field) (y : List ℕ). Run o k (add_field fs x) y more) (sym f) (sym (front_rest t c rest)) r in
-    subst (λ (x : Field). Run o k fs s (x ∷ more)) f (met (front-fault t c rest o k fs tag new above long) r')
+    subst (λ (x : Field). Run o k fs s (x ∷ more)) f (met (front-fault t c rest o k fs known tag new above long) r')
 
 -- ---- fields by rising tag are a run in order
 module _ (k : Bool) (fs : List Field) (tags : TagsOk k fs) (laid : LaidOut k fs) where
@@ -52,7 +53,7 @@ module _ (k : Bool) (fs : List Field) (tags : TagsOk k fs) (laid : LaidOut k fs)
           let last : last_tag (add_field acc f) < suc t = omega (arith, last_add acc f) in
           let later : (u : ℕ) → suc t ≤ u → has_tag u (add_field acc f) ≡ false = λ u m. has_other u f (ne_eqb u t (omega arith)) acc ∙ a u (omega arith) in
           subst (λ (r : List Field). Run true k acc (bytes_in r) r) (sym (rising_there n t fs h))
-          (run_front acc t (content_of t fs) (bytes_in (rising n (suc t) fs)) (rising n (suc t) fs) (tags t h) (a t (omega arith)) (le-ltb t (last_tag acc) (omega arith)) (laid t h) (ih (add_field acc f) last later))
+          (run_front acc t (content_of t fs) (bytes_in (rising n (suc t) fs)) (rising n (suc t) fs) refl (tags t h) (a t (omega arith)) (le-ltb t (last_tag acc) (omega arith)) (laid t h) (ih (add_field acc f) last later))
       go false h ih =
           subst (λ (r : List Field). Run true k acc (bytes_in r) r) (sym (rising_absent n t fs h)) (ih acc (omega arith) (λ u m. a u (omega arith)))
 
@@ -63,18 +64,18 @@ first_positive false = omega arith
 
 module _ (k : Bool) (fs : List Field) (tags : TagsOk k fs) where
   -- a tag that the file may not have is not there
-  outside : (u : ℕ) → (first_tag k ≤ u → u < first_tag k + 7 → ⊥) → has_tag u fs ≡ false
+  outside : (u : ℕ) → (first_tag k ≤ u → u < first_tag k + 8 → ⊥) → has_tag u fs ≡ false
   outside u out = not_true_false (has_tag u fs) (λ h. let b = tag_from k u (tags u h) in out b.0 b.1)
 
   same_at : (u : ℕ) → SameAt u (sorted k fs) fs
-  same_at u = go (leb (first_tag k) u) refl (ltb u (first_tag k + 7)) refl
+  same_at u = go (leb (first_tag k) u) refl (ltb u (first_tag k + 8)) refl
     where
-      other : (first_tag k ≤ u → u < first_tag k + 7 → ⊥) → SameAt u (sorted k fs) fs
-      other out = absent_same u (sorted k fs) fs (rising_other 7 (first_tag k) fs u out) (outside u out)
+      other : (first_tag k ≤ u → u < first_tag k + 8 → ⊥) → SameAt u (sorted k fs) fs
+      other out = absent_same u (sorted k fs) fs (rising_other 8 (first_tag k) fs u out) (outside u out)
 
-      go : (a : Bool) → leb (first_tag k) u ≡ a → (b : Bool) → ltb u (first_tag k + 7) ≡ b → SameAt u (sorted k fs) fs
-      go true p true q = rising_at 7 (first_tag k) fs u (leb-true (first_tag k) u p) (ltb-true u (first_tag k + 7) q)
-      go true p false q = let h = ltb-false u (first_tag k + 7) q in other (λ a b. omega arith)
+      go : (a : Bool) → leb (first_tag k) u ≡ a → (b : Bool) → ltb u (first_tag k + 8) ≡ b → SameAt u (sorted k fs) fs
+      go true p true q = rising_at 8 (first_tag k) fs u (leb-true (first_tag k) u p) (ltb-true u (first_tag k + 8) q)
+      go true p false q = let h = ltb-false u (first_tag k + 8) q in other (λ a b. omega arith)
       go false p b q = let h = leb-false (first_tag k) u p in other (λ a b. omega arith)
 
   sorted_same : SameFields (sorted k fs) fs
@@ -94,7 +95,7 @@ module _ {o k : Bool} where
       omega (
         arith,
         sorted_more (add_field fs (field_at s)) (drop (3 + head_long s) s) more r,
-        rising_add fs (field_at s) p.new 7 (first_tag k) b.0 b.1,
+        rising_add fs (field_at s) p.new 8 (first_tag k) b.0 b.1,
         bytes_cons_long (field_at s) more,
       )
 
@@ -102,7 +103,7 @@ module _ {o k : Bool} where
   sorted_long s more r =
       let e : add_all [] more ≡ more = all_append [] more in
       let a : length (bytes_in (sorted k more)) ≡ length (bytes_in (sorted k (add_all [] more))) = ap (λ (x : List Field). length (bytes_in (sorted k x))) (sym e) in
-      let n : length (bytes_in (sorted k [])) ≡ 0 = ap (λ (x : List Field). length (bytes_in x)) (rising_none 7 (first_tag k)) in
+      let n : length (bytes_in (sorted k [])) ≡ 0 = ap (λ (x : List Field). length (bytes_in x)) (rising_none 8 (first_tag k)) in
       omega (arith, a, n, sorted_more [] s more r, run_long [] s more r)
 
 -- ---- which file it is shows in the first byte
@@ -112,7 +113,7 @@ none_there false h = not_both h refl
 
 kind_by : (k : Bool) (t : ℕ) → tag_ok k t ≡ true → leb 16 t ≡ k
 kind_by true t o = let b = tag_from true t o in le-leb 16 t (omega arith)
-kind_by false t o = let l : t ≤ 7 = leb-true t 7 (and_right (leb 1 t) (leb t 7) o) in lt-leb 16 t (omega arith)
+kind_by false t o = let l : t ≤ 8 = leb-true t 8 (and_right (leb 1 t) (leb t 8) o) in lt-leb 16 t (omega arith)
 
 pub kind_of : (o k : Bool) (s : List ℕ) → (walk_by o k s).number ≡ 0 → is_shape_file s ≡ k
 kind_of o k s e = let w = whole_of o k s e in go w.more w.run w.there
@@ -137,8 +138,8 @@ raised k p q (f ∷ fs) tags a =
 sorted_fixed : (k : Bool) (fs : List Field) → TagsOk k fs → ascends 0 fs ≡ true → sorted k fs ≡ fs
 sorted_fixed k fs tags a =
     let (p, q) = before_first k in
-    let below : (u : ℕ) → has_tag u fs ≡ true → u < suc p + 7 = λ u h. let b = tag_from k u (tags u h) in omega arith in
-    subst (λ (t : ℕ). rising 7 t fs ≡ fs) q (rising_fixed 7 p fs (raised k p q fs tags a) below)
+    let below : (u : ℕ) → has_tag u fs ≡ true → u < suc p + 8 = λ u h. let b = tag_from k u (tags u h) in omega arith in
+    subst (λ (t : ℕ). rising 8 t fs ≡ fs) q (rising_fixed 8 p fs (raised k p q fs tags a) below)
 
 -- ---- what holds of both walks
 module _ (k : Bool) (s : List ℕ) where
@@ -149,8 +150,8 @@ module _ (k : Bool) (s : List ℕ) where
     abbrev w : Whole true k s
     w = whole_of true k s e
 
-    taken_same : walk_all k s ≡ old_walk k s
-    taken_same = walks_same k s (λ n. omega (arith, e, n))
+    taken_same : has_tag (price_tag k) (walk_all k s).fields ≡ false → walk_all k s ≡ old_walk k s
+    taken_same none = walks_same k s (priced_comes true k s e ∙ none) (λ n. omega (arith, e, n))
 
     fields_rise : ascends 0 (walk_all k s).fields ≡ true
     fields_rise = subst (λ (fs : List Field). ascends 0 fs ≡ true) (sym (fields_of true w)) (run_ascends [] s w.more w.run)
@@ -160,30 +161,41 @@ module _ (k : Bool) (s : List ℕ) where
     bytes_of_lem b =
         ap bytes_in (sorted_fixed k (walk_all k s).fields (all_tags true k s) fields_rise ∙ fields_of true w) ∙ run_bytes [] s w.more w.run b
 
-    pub stays : all_bytes s ≡ true → (is_shape_file s ≡ k) × (ordered_bytes s ≡ s)
-    stays b =
+    pub stays : all_bytes s ≡ true → has_tag (price_tag k) (walk_all k s).fields ≡ false → (is_shape_file s ≡ k) × (ordered_bytes s ≡ s)
+    stays b none =
         let i : is_shape_file s ≡ k = kind_of true k s e in
-        let f : (old_walk k s).fields ≡ (walk_all k s).fields = ap (λ (v : Walk). v.fields) (sym taken_same) in
+        let f : (old_walk k s).fields ≡ (walk_all k s).fields = ap (λ (v : Walk). v.fields) (sym (taken_same none)) in
         (i, ap (λ (j : Bool). bytes_in (sorted j (old_walk j s).fields)) i ∙ ap (λ (fs : List Field). bytes_in (sorted k fs)) f ∙ bytes_of_lem b)
 
-  just_ascending : ((walk_all k s).number ≡ 0) ↔ (((old_walk k s).number ≡ 0) × (ascends 0 (old_walk k s).fields ≡ true))
+  just_ascending : (((walk_all k s).number ≡ 0) × (has_tag (price_tag k) (walk_all k s).fields ≡ false)) ↔ (((old_walk k s).number ≡ 0) × (ascends 0 (old_walk k s).fields ≡ true))
   just_ascending = (to, from)
     where
-      to : (walk_all k s).number ≡ 0 → ((old_walk k s).number ≡ 0) × (ascends 0 (old_walk k s).fields ≡ true)
-      to e = subst (λ (v : Walk). (v.number ≡ 0) × (ascends 0 v.fields ≡ true)) (taken_same e) (e, fields_rise e)
+      to : ((walk_all k s).number ≡ 0) × (has_tag (price_tag k) (walk_all k s).fields ≡ false) → ((old_walk k s).number ≡ 0) × (ascends 0 (old_walk k s).fields ≡ true)
+      to (e, none) = subst (λ (v : Walk). (v.number ≡ 0) × (ascends 0 v.fields ≡ true)) (taken_same e none) (e, fields_rise e)
 
-      from : ((old_walk k s).number ≡ 0) × (ascends 0 (old_walk k s).fields ≡ true) → (walk_all k s).number ≡ 0
+      from : ((old_walk k s).number ≡ 0) × (ascends 0 (old_walk k s).fields ≡ true) → ((walk_all k s).number ≡ 0) × (has_tag (price_tag k) (walk_all k s).fields ≡ false)
       from (e, a) =
           let v = whole_of false k s e in
           let r : ascends 0 v.more ≡ true = subst (λ (fs : List Field). ascends 0 fs ≡ true) (fields_of false v) a in
-          ap (λ (x : Walk). x.number) (run_answer true k s v.more (run_in_order [] s v.more v.run r) v.there)
+          let w : walk_all k s ≡ walk 0 v.more = run_answer true k s v.more (run_in_order [] s v.more v.run r) v.there in
+          (ap (λ (x : Walk). x.number) w, ap (λ (x : Walk). has_tag (price_tag k) x.fields) (w ∙ sym v.answer) ∙ old_unpriced k s)
+
+  any_29 : (any_walk k s).number ≡ 0 → ascends 0 (any_walk k s).fields ≡ false → (walk_all k s).number ≡ 29
+  any_29 e a = ⊎_elim (λ p. p) (λ differ. absurd (no_other differ)) (equal_or_not (walk_all k s).number 29)
+    where
+      no_other : ((walk_all k s).number ≡ 29 → ⊥) → ⊥
+      no_other differ =
+          let same = any_same k s differ in
+          let z : (walk_all k s).number ≡ 0 = ap (λ (v : Walk). v.number) same ∙ e in
+          not_both (fields_rise z) (ap (λ (v : Walk). ascends 0 v.fields) same ∙ a)
 
   refused_29 : (old_walk k s).number ≡ 0 → ascends 0 (old_walk k s).fields ≡ false → (walk_all k s).number ≡ 29
   refused_29 e a = ⊎_elim (λ p. p) (λ differ. absurd (no_other differ)) (equal_or_not (walk_all k s).number 29)
     where
       no_other : ((walk_all k s).number ≡ 29 → ⊥) → ⊥
       no_other differ =
-          let same = walks_same k s differ in
+          let v = whole_of false k s e in
+          let same = walks_same k s (old_comes k (suc (length s)) [] s v.more v.run) differ in
           let z : (walk_all k s).number ≡ 0 = ap (λ (v : Walk). v.number) same ∙ e in
           not_both (fields_rise z) (ap (λ (v : Walk). ascends 0 v.fields) same ∙ a)
 
@@ -200,13 +212,13 @@ module _ (k : Bool) (s : List ℕ) where
 
     sorted_walked : walk_all k (bytes_in (sorted k fs)) ≡ walk 0 (sorted k fs)
     sorted_walked =
-        run_answer true k (bytes_in (sorted k fs)) (sorted k fs) (run_rising k fs (all_tags false k s) (all_laid false k s) 7 (first_tag k) [] (first_positive k) (λ u l. refl)) sorted_there
+        run_answer true k (bytes_in (sorted k fs)) (sorted k fs) (run_rising k fs (all_tags false k s) (all_laid false k s) 8 (first_tag k) [] (first_positive k) (λ u l. refl)) sorted_there
 
     pub sorted_size : length (bytes_in (sorted k fs)) ≡ length s
     sorted_size = ap (λ (x : List Field). length (bytes_in (sorted k x))) (fields_of false v) ∙ sorted_long s v.more v.run
 
     sorted_rises : ascends 0 (sorted k fs) ≡ true
-    sorted_rises = rising_up 7 (first_tag k) fs 0 (first_positive k)
+    sorted_rises = rising_up 8 (first_tag k) fs 0 (first_positive k)
 
 older_taken : (s : List ℕ) → (old_walk (is_shape_file s) s).number ≡ 0 → Taken s
 older_taken s e =
@@ -221,12 +233,12 @@ older_taken s e =
 one_file : (k : Bool) (s t : List ℕ) → all_bytes s ≡ true → all_bytes t ≡ true → (walk_all k s).number ≡ 0 → (walk_all k t).number ≡ 0 → SameFields (walk_all k s).fields (walk_all k t).fields → s ≡ t
 one_file k s t a b e g f =
     sym (bytes_of_lem k s e a)
-    ∙ ap bytes_in (rising_same 7 (first_tag k) (walk_all k s).fields (walk_all k t).fields (λ u l. f.there u) (λ u l. f.content u))
+    ∙ ap bytes_in (rising_same 8 (first_tag k) (walk_all k s).fields (walk_all k t).fields (λ u l. f.there u) (λ u l. f.content u))
     ∙ bytes_of_lem k t g b
 
 same_out : (s t : List ℕ) → is_shape_file s ≡ is_shape_file t → SameFields (old_walk (is_shape_file s) s).fields (old_walk (is_shape_file t) t).fields → ordered_bytes s ≡ ordered_bytes t
 same_out s t i f =
-    ap bytes_in (rising_same 7 (first_tag (is_shape_file s)) (old_walk (is_shape_file s) s).fields (old_walk (is_shape_file t) t).fields (λ u l. f.there u) (λ u l. f.content u))
+    ap bytes_in (rising_same 8 (first_tag (is_shape_file s)) (old_walk (is_shape_file s) s).fields (old_walk (is_shape_file t) t).fields (λ u l. f.there u) (λ u l. f.content u))
     ∙ ap (λ (k : Bool). bytes_in (sorted k (old_walk (is_shape_file t) t).fields)) i
 
 pub tag_order : TagOrder
@@ -235,7 +247,13 @@ tag_order =
       taken = older_taken;
       one_out = same_out;
       unchanged = λ k s b e. stays k s e b;
+      unknown = λ k s e h. (kind_of true k s e, priced_two k s e h);
       canonical = one_file;
+      rises = fields_rise;
+      same = any_same;
+      refused = any_29;
+      in_bytes = λ k s b e. bytes_of_lem k s e b;
+      known_not = old_refuses;
       exactly = just_ascending;
       as_before = walks_same;
       out_of_order = refused_29;

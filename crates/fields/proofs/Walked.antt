@@ -21,19 +21,19 @@ use Rattle.fields.specs.declared.Slots.{Slots}
 use Rattle.refusals.proofs.Numbered.{some_number}
 use Rattle.fields.proofs.Agree.{tag_from}
 use Rattle.fields.proofs.Turns.{from_end, from_fault, from_met, fault_same, below_is, Passed, passed}
-use Rattle.fields.proofs.Added.{last_add, at_other, at_own, is_some-content_at}
+use Rattle.fields.proofs.Added.{last_add, at_other, at_own, there_by}
 
 -- ---- slots
 abbrev pub none_met : Slots
-none_met = record { slots = replicate 7 None }
+none_met = record { slots = replicate 8 None }
 
 none_held : (k : Bool) → SlotsOf k [] none_met
-none_held k = record { slot = λ i h. ap (option_map (λ c. c.now)) (get_or-replicate 7 i None None h) }
+none_held k = record { slot = λ i h. ap (option_map (λ c. c.now)) (get_or-replicate 8 i None None h) }
 
 -- a slot's content tells whether the field is there
-module _ {k : Bool} {fs : List Field} {f : Slots} (h : SlotsOf k fs f) (i : ℕ) (l : i < 7) where
+module _ {k : Bool} {fs : List Field} {f : Slots} (h : SlotsOf k fs f) (i : ℕ) (l : i < 8) where
   met_is : is_met f.slots i ≡ has_tag (tag_at k i) fs
-  met_is = mapped (get_or f.slots i None) ∙ ap is_some (h.slot i l) ∙ is_some-content_at (tag_at k i) fs
+  met_is = mapped (get_or f.slots i None) ∙ there_by (tag_at k i) fs (h.slot i l)
     where
       mapped : (o : Option (Bor (List ℕ))) → is_some o ≡ is_some (option_map (λ c. c.now) o)
       mapped None = refl
@@ -56,7 +56,7 @@ pub record Going (o k : Bool) (s r : List ℕ) (f : Slots) (low : ℕ) : Type 0 
   pub rest : walk_by o k s ≡ fields_by o fuel k fs r
   pub last : low ≡ pick o (last_tag fs) 0
   pub slots : SlotsOf k fs f
-  pub long : length f.slots ≡ 7
+  pub long : length f.slots ≡ 8
 
 zero_low : (o : Bool) → ◌≡◌ {A = ℕ} 0 (pick o 0 0)
 zero_low true = refl
@@ -83,12 +83,12 @@ module _ {o k : Bool} {s r : List ℕ} {f : Slots} {low : ℕ} (g : Going o k s 
   slot = slot_of k t
 
   abbrev fault : ℕ
-  fault = front_fault k f.slots low r
+  fault = front_fault o k f.slots low r
 
   -- the tag's slot says whether it was met
   seen_is : tag_ok k t ≡ true → is_met f.slots slot ≡ has_tag t g.fs
-  seen_is o =
-      let b = tag_from k t o in
+  seen_is q =
+      let b = tag_from k t q in
       let e : tag_at k slot ≡ t = omega arith in
       met_is g.slots slot (omega arith) ∙ ap (λ (x : ℕ). has_tag x g.fs) e
 
@@ -97,8 +97,8 @@ module _ {o k : Bool} {s r : List ℕ} {f : Slots} {low : ℕ} (g : Going o k s 
 
   fault_is : fault_by o k g.fs r ≡ fault
   fault_is =
-      ap (λ (b : Bool). fault_where k (has_tag t g.fs) b r) (sym below)
-      ∙ sym (fault_same k (is_met f.slots slot) (has_tag t g.fs) (ltb t low) r seen_is)
+      ap (λ (b : Bool). fault_where o k (has_tag t g.fs) b r) (sym below)
+      ∙ sym (fault_same o k (is_met f.slots slot) (has_tag t g.fs) (ltb t low) r seen_is)
 
   -- the fuel that is left, a step on
   more : (l : ℕ) × (g.fuel ≡ suc l)
@@ -124,10 +124,10 @@ module _ {o k : Bool} {s r : List ℕ} {f : Slots} {low : ℕ} (g : Going o k s 
 
     -- the field at the front passed
     module _ (ok : 0 ≡ fault) where
-      p : Passed k (is_met f.slots slot) (ltb t low) r
-      p = passed k (is_met f.slots slot) (ltb t low) r (sym ok)
+      p : Passed o k (is_met f.slots slot) (ltb t low) r
+      p = passed o k (is_met f.slots slot) (ltb t low) r (sym ok)
 
-      slot_below : slot < 7
+      slot_below : slot < 8
       slot_below = let b = tag_from k t p.tag in omega arith
 
       slot_tag : tag_at k slot ≡ t
@@ -140,7 +140,7 @@ module _ {o k : Bool} {s r : List ℕ} {f : Slots} {low : ℕ} (g : Going o k s 
         abbrev on : Slots
         on = record { slots = set f.slots slot (Some c) }
 
-        slots_on : (j : ℕ) → j < 7 → content_in on j ≡ content_at (tag_at k j) (add_field g.fs (field_at r))
+        slots_on : (j : ℕ) → j < 8 → content_in on j ≡ content_at (tag_at k j) (add_field g.fs (field_at r))
         slots_on j h = go (eqb j slot) refl
           where
             go : (b : Bool) → eqb j slot ≡ b → content_in on j ≡ content_at (tag_at k j) (add_field g.fs (field_at r))

@@ -2,15 +2,28 @@
 use Rattle.std.specs.Prelude.{Bool, true, false, ◌&&◌, ◌||◌, not, List, [], ◌∷◌, ◌++◌, ℕ, zero, suc, ◌+◌, ◌*◌, ◌/◌, ◌%◌, eqb, ltb, leb, length, get_or, take, drop, Option, Some, None}
 use Rattle.finite.specs.Base.{pick, first_of, when}
 
--- which tags a file has, and their lengths; the remark's is 6 in a list, 15 hexadecimal in a shape; 7 are the limits of bends, a byte a strip
+-- which tags a file has, and their lengths; the remark's is 6 in a list, 15 hexadecimal in a shape; 7 are the limits of bends and 8 their prices, a byte a strip; 16
+-- hexadecimal is the sum of bends times price
 abbrev pub tag_ok : Bool → ℕ → Bool
-tag_ok is_shape t = pick is_shape (leb 17 t && leb t 21) (leb 1 t && leb t 7)
+tag_ok is_shape t = pick is_shape (leb 17 t && leb t 22) (leb 1 t && leb t 8)
+
+-- the tag of the prices in a list and of their sum in a shape; the older files of request E7 have neither
+abbrev pub price_tag : Bool → ℕ
+price_tag is_shape = pick is_shape 22 8
+
+abbrev pub is_known : Bool → Bool → ℕ → Bool
+is_known in_order is_shape t = in_order || not (eqb t (price_tag is_shape))
+
+-- the tags that a walk takes, in order or in any order
+abbrev pub tag_in : Bool → Bool → ℕ → Bool
+tag_in in_order is_shape t = is_known in_order is_shape t && tag_ok is_shape t
 
 abbrev pub long_ok : Bool → ℕ → ℕ → Bool
 long_ok is_shape t n =
     pick is_shape
     (pick (eqb t 17 || eqb t 18) (eqb n 2)
-    (pick (eqb t 19 || eqb t 20) (leb n 256) (leb n 80)))
+    (pick (eqb t 19 || eqb t 20) (leb n 256)
+    (pick (eqb t 21) (leb n 80) (eqb n 4))))
     (pick (eqb t 1) (eqb n 2)
     (pick (eqb t 2 || eqb t 5) (eqb n 1)
     (pick (eqb t 3) (leb n 256 && eqb (n % 2) 0)
@@ -63,20 +76,20 @@ last_tag (f ∷ []) = f.tag
 last_tag (f ∷ (g ∷ fs)) = last_tag (g ∷ fs)
 
 -- refusals 1, 2, 3, 29, 4, 5 of the field at the front of s, told whether its tag was met before and whether it is below the previous one
-abbrev pub fault_where : Bool → Bool → Bool → List ℕ → ℕ
-fault_where is_shape met below s =
+abbrev pub fault_where : Bool → Bool → Bool → Bool → List ℕ → ℕ
+fault_where in_order is_shape met below s =
     let t = get_or s 0 0 in
     let n = head_long s in
     first_of (when (ltb (length s) 3) 1)
-    (first_of (when (not (tag_ok is_shape t)) 2)
+    (first_of (when (not (tag_in in_order is_shape t)) 2)
     (first_of (when met 3)
     (first_of (when below 29)
     (first_of (when (not (long_ok is_shape t n)) 4)
     (when (ltb (length s) (3 + n)) 5)))))
 
--- in order: tags ascend; else in any order, as files were before request E7
+-- in order: tags ascend; else in any order, as files were before request E7, and without prices
 abbrev pub fault_by : Bool → Bool → List Field → List ℕ → ℕ
-fault_by in_order is_shape fs s = let t = get_or s 0 0 in fault_where is_shape (has_tag t fs) (in_order && ltb t (last_tag fs)) s
+fault_by in_order is_shape fs s = let t = get_or s 0 0 in fault_where in_order is_shape (has_tag t fs) (in_order && ltb t (last_tag fs)) s
 
 abbrev pub field_fault : Bool → List Field → List ℕ → ℕ
 field_fault is_shape fs s = fault_by true is_shape fs s

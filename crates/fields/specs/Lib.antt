@@ -4,5 +4,5 @@ pub mod Rules
 pub mod Says
 pub mod Writing
 pub mod Ordering
-pub mod Unlimited
+pub mod Earlier
 pub mod Remarks

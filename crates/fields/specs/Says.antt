@@ -15,7 +15,7 @@ content_in f i = option_map (λ c. c.now) (get_or f.slots i None)
 
 -- each slot holds the content of its tag, where the fields fs were met
 pub record SlotsOf (is_shape : Bool) (fs : List Field) (f : Slots) : Type 0 where
-  pub slot : (i : ℕ) → i < 7 → content_in f i ≡ content_at (tag_at is_shape i) fs
+  pub slot : (i : ℕ) → i < 8 → content_in f i ≡ content_at (tag_at is_shape i) fs
 
 -- what the walk met, before it is asked whether a field is absent, or its refusal
 abbrev pub FieldsMet : Bool → Bool → List ℕ → Result Slots Refusal → Type 0
@@ -37,12 +37,14 @@ pub record ListFieldsOf (fs : List Field) (f : ListFields) : Type 0 where
   pub order : f.order.now ≡ content_of 4 fs
   pub outer : f.outer.now ≡ content_of 5 fs
   pub limits : option_map (λ c. c.now) f.limits ≡ content_at 7 fs
+  pub prices : option_map (λ c. c.now) f.prices ≡ content_at 8 fs
 
 pub record ShapeFieldsOf (fs : List Field) (f : ShapeFields) : Type 0 where
   pub revision : f.revision.now ≡ content_of 17 fs
   pub total : f.total.now ≡ content_of 18 fs
   pub angles : f.angles.now ≡ content_of 19 fs
   pub rights : f.rights.now ≡ content_of 20 fs
+  pub sum : option_map (λ c. c.now) f.sum ≡ content_at 22 fs
 
 -- the contents that slots hold, by name
 pub record ListNamed (f : Slots) (g : ListFields) : Type 0 where
@@ -52,12 +54,14 @@ pub record ListNamed (f : Slots) (g : ListFields) : Type 0 where
   pub order : Some g.order ≡ get_or f.slots 3 None
   pub outer : Some g.outer ≡ get_or f.slots 4 None
   pub limits : g.limits ≡ get_or f.slots 6 None
+  pub prices : g.prices ≡ get_or f.slots 7 None
 
 pub record ShapeNamed (f : Slots) (g : ShapeFields) : Type 0 where
   pub revision : Some g.revision ≡ get_or f.slots 0 None
   pub total : Some g.total ≡ get_or f.slots 1 None
   pub angles : Some g.angles ≡ get_or f.slots 2 None
   pub rights : Some g.rights ≡ get_or f.slots 3 None
+  pub sum : g.sum ≡ get_or f.slots 5 None
 
 -- these, or 6 where one of them is absent
 pub record ListThere (f : Slots) (r : Result ListFields Refusal) : Type 0 where

@@ -3,7 +3,8 @@
 
 ghost use Rattle.std.specs.Prelude.{◌≡◌, ◌+◌, ◌*◌, true, false};
 ghost use Rattle.finite.specs.Base.{pick};
-ghost use Rattle.fields.specs.Rules.{RuleIs, FrontIs, keeps, first_tag};
+ghost use Rattle.fields.specs.Files.{is_known};
+ghost use Rattle.fields.specs.Rules.{RuleIs, RuleBy, FrontIs, keeps, first_tag};
 ghost use Rattle.fields.specs.Says.{FieldsMet, HoldsBy, ListThere, ShapeThere, AllThere, ListWalked, ShapeWalked, head, word};
 
 use refusals::Refusal;
@@ -45,7 +46,7 @@ pub fn list_rule(tag: u8) -> Option<Rule>
         0x03 => Some(Rule::EvenUpTo(256)),
         0x04 => Some(Rule::UpTo(256)),
         0x06 => Some(Rule::UpTo(80)),
-        0x07 => Some(Rule::UpTo(128)),
+        0x07..=0x08 => Some(Rule::UpTo(128)),
         _ => None,
     }
 }
@@ -58,14 +59,27 @@ pub fn shape_rule(tag: u8) -> Option<Rule>
         0x11..=0x12 => Some(Rule::Exactly(2)),
         0x13..=0x14 => Some(Rule::UpTo(256)),
         0x15 => Some(Rule::UpTo(80)),
+        0x16 => Some(Rule::Exactly(4)),
         _ => None,
     }
 }
 
-// The rule of a tag of this kind of file.
-fn rule_of(shape: bool, tag: u8) -> Option<Rule>
-    ensures { RuleIs shape tag result }
+// Does the walk take this tag? In any order it takes no prices, nor their sum. `in_order`, here and below: tags ascend. It stays beside
+// `shape`, as in the definitions: what is asked of the kind of a file alone does not need it.
+fn is_known(shape: bool, in_order: bool, tag: u8) -> bool
+    ensures { result ≡ is_known in_order shape tag }
 {
+    let price_tag = if shape { 0x16 } else { 0x08 };
+    in_order || tag != price_tag
+}
+
+// The rule of a tag of this kind of file; none where the walk does not know it.
+fn rule_of(shape: bool, in_order: bool, tag: u8) -> Option<Rule>
+    ensures { RuleBy in_order shape tag result }
+{
+    if !is_known(shape, in_order, tag) {
+        return None;
+    }
     if shape {
         shape_rule(tag)
     } else {
@@ -80,13 +94,13 @@ fn first_tag(shape: bool) -> u8
     if shape { 0x11 } else { 0x01 }
 }
 
-/// The content of each field of a file, by the field's slot. Slots 0 to 6 are
-/// those of tags 01 to 07 in a plate list, 0 to 4 those of 11 to 15 in a shape
+/// The content of each field of a file, by the field's slot. Slots 0 to 7 are
+/// those of tags 01 to 08 in a plate list, 0 to 5 those of 11 to 16 in a shape
 /// file.
 // An array: each kind of file names its fields in its own way.
 #[derive(Clone, Copy)]
 pub struct Slots<'a> {
-    pub slots: [Option<&'a [u8]>; 7],
+    pub slots: [Option<&'a [u8]>; 8],
 }
 
 /// The contents of a plate list's fields, but for the remark's.
@@ -98,6 +112,7 @@ pub struct ListFields<'a> {
     pub order: &'a [u8],
     pub outer: &'a [u8],
     pub limits: Option<&'a [u8]>,
+    pub prices: Option<&'a [u8]>,
 }
 
 /// The contents of a shape file's fields, but for the remark's.
@@ -107,15 +122,16 @@ pub struct ShapeFields<'a> {
     pub total: &'a [u8],
     pub angles: &'a [u8],
     pub rights: &'a [u8],
+    pub sum: Option<&'a [u8]>,
 }
 
 impl<'a> Slots<'a> {
-    // The fields of a plate list. All but the remark and the limits must be there.
+    // The fields of a plate list. All but the remark, the limits and the prices must be there.
     fn list_fields(self) -> Result<ListFields<'a>, Refusal>
         ensures { ListThere self.entry result }
     {
         let absent = Refusal::FieldAbsent;
-        let [revision, posts, ends, order, outer, _, limits] = self.slots;
+        let [revision, posts, ends, order, outer, _, limits, prices] = self.slots;
         Ok(ListFields {
             revision: revision.ok_or(absent)?,
             posts: posts.ok_or(absent)?,
@@ -123,20 +139,22 @@ impl<'a> Slots<'a> {
             order: order.ok_or(absent)?,
             outer: outer.ok_or(absent)?,
             limits,
+            prices,
         })
     }
 
-    // The fields of a shape file. All but the remark must be there.
+    // The fields of a shape file. All but the remark and the sum must be there.
     fn shape_fields(self) -> Result<ShapeFields<'a>, Refusal>
         ensures { ShapeThere self.entry result }
     {
         let absent = Refusal::FieldAbsent;
-        let [revision, total, angles, rights, ..] = self.slots;
+        let [revision, total, angles, rights, _, sum, ..] = self.slots;
         Ok(ShapeFields {
             revision: revision.ok_or(absent)?,
             total: total.ok_or(absent)?,
             angles: angles.ok_or(absent)?,
             rights: rights.ok_or(absent)?,
+            sum,
         })
     }
 
@@ -170,13 +188,19 @@ struct Met<'a> {
 
 // The field at the front of `s`, in this kind of file, with the slots met before it and the tag that it may not be below: all six refusals,
 // then the field. The tests are bound before the branches, so that their order is seen in the branches alone.
-fn step<'a>(s: &'a [u8], shape: bool, before: Slots<'a>, lowest: u8) -> Result<Met<'a>, Refusal>
-    ensures { FrontIs shape before.entry.slots lowest s.now result }
+fn step<'a>(
+    s: &'a [u8],
+    shape: bool,
+    in_order: bool,
+    before: Slots<'a>,
+    lowest: u8,
+) -> Result<Met<'a>, Refusal>
+    ensures { FrontIs in_order shape before.entry.slots lowest s.now result }
 {
     let [tag, high, low, behind @ ..] = s else {
         return Err(Refusal::FieldCut);
     };
-    let rule = rule_of(shape, *tag).ok_or(Refusal::UnknownTag)?;
+    let rule = rule_of(shape, in_order, *tag).ok_or(Refusal::UnknownTag)?;
     let slot = usize::from(*tag - first_tag(shape));
     let in_slot = before.slots[slot];
     let is_met = in_slot.is_some();
@@ -203,24 +227,23 @@ fn step<'a>(s: &'a [u8], shape: bool, before: Slots<'a>, lowest: u8) -> Result<M
     })
 }
 
-// The tag that the next field may not be below: this one where tags ascend (`in_order`), else none. `in_order`, here and in `walk`: the
-// definitions have the flag, and both walks are one.
+// The tag that the next field may not be below: this one where tags ascend, else none.
 fn lowest_after(in_order: bool, tag: u8) -> u8
     ensures { result ≡ pick in_order tag 0 }
 {
     if in_order { tag } else { 0 }
 }
 
-// The walk over a file of this kind, field by field from the front; `in_order`: tags ascend. Which fields are absent is not looked at.
+// The walk over a file of this kind, field by field from the front. Which fields are absent is not looked at.
 fn walk(s: &[u8], shape: bool, in_order: bool) -> Result<Slots<'_>, Refusal>
     ensures { FieldsMet in_order shape s.now result }
 {
-    let mut met = Slots { slots: [None; 7] };
+    let mut met = Slots { slots: [None; 8] };
     let mut lowest = 0;
     let mut rest = s;
     // A `while`: each field says how long it is, so no iterator gives them.
     while let [tag, ..] = rest {
-        let field = step(rest, shape, met, lowest)?;
+        let field = step(rest, shape, in_order, met, lowest)?;
         met.slots[field.slot] = Some(field.content);
         lowest = lowest_after(in_order, *tag);
         rest = field.rest;

@@ -27,7 +27,7 @@ pub fn order_fields(file: &[u8], out: &mut [u8]) -> Result<usize, Refusal>
     let mut at = 0;
     for (slot, field) in fields.slots.iter().enumerate() {
         if let Some(content) = field {
-            // `as`: there are seven slots, and `try_from` would test it again.
+            // `as`: there are eight slots, and `try_from` would test it again.
             at = write_field(out, at, tag + slot as u8, content);
         }
     }

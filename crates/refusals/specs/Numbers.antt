@@ -1,7 +1,7 @@
 -- The number of each refusal, as documents 01 and 02 give it, and the number that an answer stands for.
 use Rattle.std.specs.Prelude.{ℕ, Result, Ok, Err}
 use Rattle.refusals.specs.declared.Refusal.{Refusal}
-use Rattle.refusals.specs.declared.Refusal.TheVariants.{FieldCut, UnknownTag, RepeatedTag, FieldLength, ContentCut, FieldAbsent, PostCount, NoStrips, EndNotAPost, OverFourPlaces, ClockwiseOrder, OuterDart, NotConnected, NotPlane, MemoryShort, ShapeLength, RevisionDiffers, AngleRange, AnglesAtPost, TurnsOfFace, TotalDiffers, LimitsLength, NoShapeWithin, LimitPassed, TagOrder, TextForm, MixedWord, TextFaces, NoSuchStep, PlateFull, PostFull, EntryCut, RevisionListed, NotCurrent}
+use Rattle.refusals.specs.declared.Refusal.TheVariants.{FieldCut, UnknownTag, RepeatedTag, FieldLength, ContentCut, FieldAbsent, PostCount, NoStrips, EndNotAPost, OverFourPlaces, ClockwiseOrder, OuterDart, NotConnected, NotPlane, MemoryShort, ShapeLength, RevisionDiffers, AngleRange, AnglesAtPost, TurnsOfFace, TotalDiffers, LimitsLength, NoShapeWithin, LimitPassed, TagOrder, TextForm, MixedWord, TextFaces, NoSuchStep, PlateFull, PostFull, PricesWrong, SumWrong, EntryCut, RevisionListed, NotCurrent}
 
 -- 10 is not used, nor is a number that the documents give to none
 abbrev pub number_of : Refusal → ℕ
@@ -36,6 +36,8 @@ number_of TextFaces = 32
 number_of NoSuchStep = 35
 number_of PlateFull = 36
 number_of PostFull = 37
+number_of PricesWrong = 38
+number_of SumWrong = 39
 number_of EntryCut = 40
 number_of RevisionListed = 41
 number_of NotCurrent = 42

@@ -21,7 +21,8 @@ pub enum Refusal {
     FieldLength = 4,
     /// A field's content passes the end.
     ContentCut = 5,
-    /// A field other than the remark and the limits is absent.
+    /// A field other than the remark, the limits, the prices and their sum is
+    /// absent.
     FieldAbsent = 6,
     /// No post, or over 64.
     PostCount = 7,
@@ -77,6 +78,11 @@ pub enum Refusal {
     PlateFull = 36,
     /// A step to a fifth place at a post.
     PostFull = 37,
+    /// The prices are not one for each strip, or one is outside 1 to 100.
+    PricesWrong = 38,
+    /// A shape's sum of bends times price is absent though the list has prices,
+    /// present though it has none, or not that of the shape's own bends.
+    SumWrong = 39,
     /// The last entry of a book has under six bytes.
     EntryCut = 40,
     /// An entry's revision is 0, or already listed for its model.

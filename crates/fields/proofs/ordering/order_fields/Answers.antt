@@ -6,7 +6,7 @@ use Rattle.fields.proofs.ordering.order_fields.Goals.{in-Some, in_default}
 
 pub returns : goal.returns
 returns c =
-    let e : c.loop-slot.slot ≡ 7 = omega arith in
+    let e : c.loop-slot.slot ≡ 8 = omega arith in
     order_given c.is_shape-shape.ensures c.in_ok-fields.ensures c.args.out.now _ _ c.if-out-file.false (rw e at c.loop-slot.invariant)
 
 pub returns-then-out-file : goal.returns-then-out-file
