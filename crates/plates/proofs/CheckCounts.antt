@@ -11,13 +11,13 @@ use Rattle.refusals.proofs.Numbered.{some_number}
 use Rattle.embedding.specs.Read.{meant}
 use Rattle.shapes.specs.Judge.{judgement}
 use Rattle.plates.specs.Shapes.{total, same, pair_sums, all_within}
-use Rattle.plates.specs.Files.{plate_of, limits_of}
+use Rattle.plates.specs.Files.{walk_all, plate_of, limits_of, prices_of, sum_of}
 use Rattle.plates.specs.Claims.{BestCounts}
 use Rattle.plates.specs.Answers.{verdict}
-use Rattle.plates.specs.Says.{word, angles_in, rights_in, check_fault, CheckWith, CheckSays}
+use Rattle.plates.specs.Says.{word, angles_in, rights_in, sum_true, check_fault, CheckWith, CheckSays}
 use Rattle.plates.specs.declared.reading.ShapeFile.{ShapeFile}
 use Rattle.plates.proofs.HeldLists.{list_darts}
-use Rattle.plates.proofs.CheckSound.{file_many, judged_fault, total_fault, limit_fault, counts_pass}
+use Rattle.plates.proofs.CheckSound.{file_many, judged_fault, total_fault, limit_fault, sum_fault, counts_pass}
 
 module _ (f : ShapeFile) where
   abbrev s : List ℕ
@@ -44,18 +44,22 @@ module _ (f : ShapeFile) where
         pub file_limits : w ≡ false → 25 ≡ check_fault s t
         file_limits = limit_fault s t f.list.accepted f.accepted number_is z (said ∙ ap word f.total_said) (sum ∙ ap total f.rights) y within_is
 
-        pub file_sound : w ≡ true → 0 ≡ check_fault s t
-        file_sound = counts_pass s t f.list.accepted f.accepted number_is z (said ∙ ap word f.total_said) (sum ∙ ap total f.rights) y within_is
+        module _ (kept : w ≡ true) {v : Bool} (summed : v ≡ sum_true (walk_all false s).fields (walk_all true t).fields) where
+          pub file_sum : v ≡ false → 39 ≡ check_fault s t
+          file_sum = sum_fault s t f.list.accepted f.accepted number_is z (said ∙ ap word f.total_said) (sum ∙ ap total f.rights) y within_is kept summed
+
+          pub file_sound : v ≡ true → 0 ≡ check_fault s t
+          file_sound = counts_pass s t f.list.accepted f.accepted number_is z (said ∙ ap word f.total_said) (sum ∙ ap total f.rights) y within_is kept summed
 
   pub file_judged : {A : Type 0} {v : Result A Refusal} {r : Refusal} → v ≡ Err r → number_of r ≡ judgement (meant f.list.plate) f.counts.angles.now f.counts.rights.now → fault_of v ≡ check_fault s t
   file_judged {r = r} is q = ap fault_of is ∙ judged_fault s t f.list.accepted f.accepted (number_is q) (some_number r)
 
   -- a sound file, against the counts of the best shape
-  pub file_verdict : {a x : List ℕ} {n fewest : ℕ} {ours : Bool} → check_fault s t ≡ 0 → BestCounts s a x → n ≡ total f.counts.rights.now → fewest ≡ total x → ours ≡ (same a f.counts.angles.now && same x f.counts.rights.now)
+  pub file_verdict : {a x : List ℕ} {n fewest : ℕ} {ours : Bool} → check_fault s t ≡ 0 → BestCounts s a x → n ≡ total f.counts.rights.now → fewest ≡ sum_of (prices_of s) x → ours ≡ (same a f.counts.angles.now && same x f.counts.rights.now)
       → CheckSays s t (verdict 0 n fewest ours)
   file_verdict {a} {x} {n} {fewest} {ours} e best sum few own =
       subst (λ (k : ℕ). CheckWith k s t (verdict 0 n fewest ours)) (sym e)
       (refl, sum ∙ ap total f.rights, (a, x, best.best, best.counts, (few, own ∙ (λ i. same a (f.angles i) && same x (f.rights i)))))
 
 -- the steps of the check
-pub ruleset steps = (counts_many, file_total, file_limits, file_sound)
+pub ruleset steps = (counts_many, file_total, file_limits, file_sum, file_sound)

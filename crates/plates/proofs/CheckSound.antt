@@ -1,4 +1,4 @@
--- What the check promises, from what its steps give: the list's refusal, the shape file's, the one judged, 22, 25, or a sound verdict. Assumes nothing.
+-- What the check promises, from what its steps give: the list's refusal, the shape file's, the one judged, 22, 25, 39, or a sound verdict. Assumes nothing.
 use mathlib.Core.Path.{◌≡◌, refl, sym, ap, subst, ◌∙◌}
 use mathlib.Core.Bool.{Bool, true, false, ◌&&◌, not}
 use mathlib.Core.List.{List}
@@ -14,7 +14,7 @@ use Rattle.finite.proofs.Tests.{and_left, and_right, first_none, first_some, fir
 use Rattle.plates.specs.Plates.{first_of, when, darts, faces}
 use Rattle.plates.specs.Shapes.{total, angles_ok, posts_ok, faces_ok, pair_sums, all_within, shape_of}
 use Rattle.plates.specs.Files.{content_of, walk_all, list_fault, plate_of, limits_of}
-use Rattle.plates.specs.Says.{word, angles_in, rights_in, check_fault, CheckWith, CheckSays}
+use Rattle.plates.specs.Says.{word, angles_in, rights_in, sum_true, last_fault, check_fault, CheckWith, CheckSays}
 use Rattle.plates.specs.Answers.{verdict, verdict_of}
 use Rattle.plates.specs.declared.checking.Sound.{Sound}
 use Rattle.plates.specs.Read.{shape_file_fault}
@@ -37,8 +37,14 @@ module _ (s t : List ℕ) where
   abbrev kept : Bool
   kept = all_within (limits_of s) (pair_sums (rights_in t))
 
+  abbrev summed : Bool
+  summed = sum_true (walk_all false s).fields (walk_all true t).fields
+
+  abbrev from_25 : ℕ
+  from_25 = last_fault (walk_all false s).fields (walk_all true t)
+
   abbrev last : ℕ
-  last = first_of (when (not (eqb said (total (rights_in t)))) 22) (when (not kept) 25)
+  last = first_of (when (not (eqb said (total (rights_in t)))) 22) from_25
 
   abbrev pub judged_then : ℕ
   judged_then = first_of (judgement (plate_of s) (angles_in t) (rights_in t)) last
@@ -79,7 +85,7 @@ module _ (s t : List ℕ) where
       pub later : check_fault s t ≡ judged_then
       later = places ∙ ap (λ (k : ℕ). first_of k (first_of (shape_file_fault s t) judged_then)) none ∙ ap (λ (k : ℕ). first_of k judged_then) sound-file
 
-      -- judged, then 22, then 25, then sound
+      -- judged, then 22, then 25, then 39, then sound
       module _ {j : ℕ} (e : j ≡ judgement (plate_of s) (angles_in t) (rights_in t)) where
         pub judged_fault : (j ≡ 0 → ⊥) → j ≡ check_fault s t
         judged_fault n = e ∙ sym (later ∙ first_some (judgement (plate_of s) (angles_in t) (rights_in t)) last (λ z. n (e ∙ z)))
@@ -89,16 +95,23 @@ module _ (s t : List ℕ) where
           after_judge = later ∙ ap (λ (i : ℕ). first_of i last) (sym e ∙ z)
 
           pub total_fault : (n ≡ k → ⊥) → 22 ≡ check_fault s t
-          total_fault m = sym (after_judge ∙ ap (λ (b : Bool). first_of (when (not b) 22) (when (not kept) 25)) (ne_eqb said (total (rights_in t)) (λ y. m (n-is ∙ y ∙ sym k-is))))
+          total_fault m = sym (after_judge ∙ ap (λ (b : Bool). first_of (when (not b) 22) from_25) (ne_eqb said (total (rights_in t)) (λ y. m (n-is ∙ y ∙ sym k-is))))
 
           module _ (y : n ≡ k) {w : Bool} (w-is : w ≡ kept) where
-            after_total : check_fault s t ≡ when (not w) 25
+            after_total : check_fault s t ≡ first_of (when (not w) 25) (when (not summed) 39)
             after_total =
-                after_judge ∙ ap (λ (b : Bool). first_of (when (not b) 22) (when (not kept) 25)) (eq-eqb said (total (rights_in t)) (sym n-is ∙ y ∙ k-is))
-                ∙ ap (λ (b : Bool). when (not b) 25) (sym w-is)
+                after_judge ∙ ap (λ (b : Bool). first_of (when (not b) 22) from_25) (eq-eqb said (total (rights_in t)) (sym n-is ∙ y ∙ k-is))
+                ∙ ap (λ (b : Bool). first_of (when (not b) 25) (when (not summed) 39)) (sym w-is)
 
             pub limit_fault : w ≡ false → 25 ≡ check_fault s t
-            limit_fault f = sym (after_total ∙ ap (λ (b : Bool). when (not b) 25) f)
+            limit_fault f = sym (after_total ∙ ap (λ (b : Bool). first_of (when (not b) 25) (when (not summed) 39)) f)
 
-            pub counts_pass : w ≡ true → 0 ≡ check_fault s t
-            counts_pass f = sym (after_total ∙ ap (λ (b : Bool). when (not b) 25) f)
+            module _ (f : w ≡ true) {v : Bool} (v-is : v ≡ summed) where
+              after_limits : check_fault s t ≡ when (not v) 39
+              after_limits = after_total ∙ (let back = sym v-is in λ i. first_of (when (not (f i)) 25) (when (not (back i)) 39))
+
+              pub sum_fault : v ≡ false → 39 ≡ check_fault s t
+              sum_fault g = sym (after_limits ∙ ap (λ (b : Bool). when (not b) 39) g)
+
+              pub counts_pass : v ≡ true → 0 ≡ check_fault s t
+              counts_pass g = sym (after_limits ∙ ap (λ (b : Bool). when (not b) 39) g)

@@ -46,9 +46,9 @@ module _ (s : List ℕ) (e : (walk_all false s).number ≡ 0) where
         order_most = leb-true (length (content_of 4 fs)) 256 (all_laid true false s 4 (and_left (has_tag 4 fs) _ there_4));
       }
 
--- fields with the same contents give the same plate, and shape files copy the same revision from them
+-- fields with the same contents give the same plate, and shape files take the same revision and sum from them
 pub plate_by : (fs gs : List Field) → content_of 2 fs ≡ content_of 2 gs → content_of 3 fs ≡ content_of 3 gs → content_of 4 fs ≡ content_of 4 gs → content_of 5 fs ≡ content_of 5 gs → plate_in fs ≡ plate_in gs
 plate_by fs gs posts ends order outer = rw (posts, ends, order, outer)
 
-pub copied_by : (fs gs : List Field) → content_of 1 fs ≡ content_of 1 gs → (a r : List ℕ) → file_bytes fs a r ≡ file_bytes gs a r
-copied_by fs gs revision a r = rw revision
+pub copied_by : (fs gs : List Field) → content_of 1 fs ≡ content_of 1 gs → has_tag 8 fs ≡ has_tag 8 gs → content_of 8 fs ≡ content_of 8 gs → (a r : List ℕ) → file_bytes fs a r ≡ file_bytes gs a r
+copied_by fs gs revision priced prices a r = rw (revision, priced, prices)

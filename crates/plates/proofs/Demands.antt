@@ -1,15 +1,14 @@
 -- The demands of Says and of Claims, whole, and the paper's other sentences on files. Assumes nothing.
-use mathlib.Core.Path.{◌≡◌, sym, subst, subst₂}
-use mathlib.Core.Bool.{false}
+use mathlib.Core.Path.{◌≡◌, sym, ap₂, subst, subst₂}
+use mathlib.Core.Bool.{Bool, true, false}
 use mathlib.Core.List.{List}
 use Prim.Native.Nat.{ℕ, ◌≤◌}
 use native.Mathlib.Omega.{arith}
 use lib.ListN.{length}
 use Rattle.fields.proofs.Longest as Longest
-use Rattle.plates.specs.Plates.{Plate}
-use Rattle.plates.specs.Shapes.{rights_of, shape_of}
-use Rattle.plates.specs.Files.{walk_all, list_fault, plate_of, limits_of}
-use Rattle.plates.specs.Claims.{BestWithin}
+use Rattle.plates.specs.Plates.{Plate, when}
+use Rattle.plates.specs.Shapes.{rights_of, Rates, rates, BestBy, shape_of}
+use Rattle.plates.specs.Files.{walk_all, list_fault, plate_of, is_priced, rates_of}
 use Rattle.plates.specs.Says.{file_long, SamePlate, SameShape, Demands, Files}
 use Rattle.plates.proofs.Contents.{list_fields, plate_by}
 use Rattle.plates.proofs.Fronts.{fronts}
@@ -28,15 +27,19 @@ same_plate s t h = plate_by (walk_all false s).fields (walk_all false t).fields 
 
 pub same_shape : SameShape
 same_shape s t a r b q e h x m y n =
-    same_counts (plate_of s) (limits_of s) a r b q x m
-    (subst₂ (λ (p : Plate) (ls : List ℕ). BestWithin p ls (shape_of p b q)) (sym (same_plate s t h)) (sym h.limits) y)
+    same_counts (plate_of s) (rates_of s) a r b q x m
+    (subst₂ (λ (p : Plate) (rs : Rates). BestBy p rs (shape_of p b q)) (sym (same_plate s t h)) (sym (ap₂ rates h.limits h.prices)) y)
     (subst (λ (p : Plate). rights_of (shape_of p b q).words ≡ q) (sym (same_plate s t h)) n)
 
-pub list_longest : (s : List ℕ) → list_fault s ≡ 0 → length s ≤ 745
+pub list_longest : (s : List ℕ) → list_fault s ≡ 0 → length s ≤ 876
 list_longest s e = Longest.list_longest s (list_walked s e)
 
-pub file_longest : (s : List ℕ) → list_fault s ≡ 0 → file_long s ≤ 528
-file_longest s e = omega (arith, (list_fields s (list_walked s e)).ends_most)
+pub file_longest : (s : List ℕ) → list_fault s ≡ 0 → file_long s ≤ 535
+file_longest s e = omega (arith, (list_fields s (list_walked s e)).ends_most, seven (is_priced s))
+  where
+    seven : (b : Bool) → when b 7 ≤ 7
+    seven true = omega arith
+    seven false = omega arith
 
 pub files : Files
 files =

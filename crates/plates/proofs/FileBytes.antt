@@ -1,4 +1,4 @@
--- A written shape's bytes are bytes: contents are cut from the list's bytes, lengths and the total fit two bytes, angles are at most 4 and right bends fit a byte. Assumes nothing.
+-- A written shape's bytes are bytes: contents are cut from the list's bytes, lengths and the total fit two bytes, the priced sum four, angles are at most 4 and right bends fit a byte. Assumes nothing.
 use mathlib.Core.Path.{◌≡◌, refl, ap, ◌∙◌}
 use mathlib.Core.Bool.{Bool, true, false, ◌&&◌}
 use mathlib.Core.List.{List, [], ◌∷◌}
@@ -10,19 +10,20 @@ use borrow.Author.Tests.{eqb-true, lt-ltb, leb-true}
 use Rattle.finite.proofs.Tests.{and_left, and_right, and_both, each_over}
 use Rattle.fields.proofs.Added.{content_other, content_own}
 use Rattle.fields.proofs.Turns.{passed_by}
-use Rattle.fields.proofs.Bytes.{bytes_take, bytes_drop, bytes_append, bytes_two, bytes_field}
+use Rattle.fields.proofs.Bytes.{bytes_take, bytes_drop, bytes_append, bytes_two, bytes_four, bytes_field}
 use Rattle.fields.proofs.Laid.{every_field}
 use Rattle.shapes.proofs.Meets.{meets_facts}
 use Rattle.plates.specs.Plates.{Plate}
 use Rattle.plates.specs.Shapes.{total, angles_ok, rights_of, shape_of}
-use Rattle.plates.specs.Files.{Field, content_of, add_field, head_long, field_fault, field_at, walk_all, two, field, file_bytes, shape_bytes, list_fault, plate_of, limits_of}
+use Rattle.plates.specs.Files.{Field, has_tag, content_of, add_field, head_long, field_fault, field_at, walk_all, two, four, field, sum_of, count_bytes, sum_bytes, file_bytes, shape_bytes, list_fault, plate_of, prices_of, rates_of, sum_field}
 use Rattle.plates.specs.Claims.{BestOf}
 use Rattle.plates.specs.Says.{all_bytes}
 use Rattle.plates.proofs.Contents.{ListFields, list_fields}
-use Rattle.plates.proofs.Lists.{list_walked, list_accepted}
+use Rattle.plates.proofs.Prices.{fits}
+use Rattle.plates.proofs.Lists.{list_walked, list_accepted, list_fair}
 use Rattle.plates.proofs.ShapeFile.{from_18, from_19}
 use Rattle.plates.proofs.ReadsBack.{angles_many, rights_many, shape-bytes}
-use Rattle.shapes.proofs.BestFits.{within_unit, within_total}
+use Rattle.shapes.proofs.BestFits.{rated_unit, rated_total}
 
 bytes_angles : (a : List ℕ) → angles_ok a ≡ true → all_bytes a ≡ true
 bytes_angles [] e = refl
@@ -64,21 +65,28 @@ module _ (s a r : List ℕ) (e : list_fault s ≡ 0) (bytes : all_bytes s ≡ tr
   rights_fit = omega (arith, rights_many s a r e best.meets_all counts, laid.ends_most)
 
   pub total_fit : total r < 65536
-  total_fit = omega (arith, within_total p (list_accepted s e) (limits_of s) (shape_of p a r) best, ap total counts)
+  total_fit = omega (arith, rated_total p (list_accepted s e) (rates_of s) (list_fair s e) (shape_of p a r) best, ap total counts)
 
   pub unit_fit : (d : ℕ) → d < length r → get_or r d 0 < 256
   unit_fit d l =
-      omega (arith, within_unit p (list_accepted s e) (limits_of s) (shape_of p a r) best d (omega (arith, rights_many s a r e best.meets_all counts)), ap (λ (q : List ℕ). get_or q d 0) counts)
+      omega (arith, rated_unit p (list_accepted s e) (rates_of s) (list_fair s e) (shape_of p a r) best d (omega (arith, rights_many s a r e best.meets_all counts)), ap (λ (q : List ℕ). get_or q d 0) counts)
 
   bytes_rights : all_bytes r ≡ true
   bytes_rights = each_over all_bytes (λ x. ltb x 256) refl (λ x y. refl) r (λ d l. lt-ltb (get_or r d 0) 256 (unit_fit d l))
 
-  written_bytes : all_bytes (file_bytes fs a r) ≡ true
-  written_bytes =
+  bytes_sum : (b : Bool) → all_bytes (sum_field b (prices_of s) r) ≡ true
+  bytes_sum true = bytes_field 22 (four (sum_of (prices_of s) r)) (omega arith) (omega arith) (bytes_four (sum_of (prices_of s) r) (fits s r e total_fit))
+  bytes_sum false = refl
+
+  bytes_counts : all_bytes (count_bytes fs a r) ≡ true
+  bytes_counts =
       bytes_append (field 17 (content_of 1 fs)) (from_18 a r) (bytes_field 17 (content_of 1 fs) (omega arith) (omega (arith, laid.revision)) (contents_bytes false s bytes 1))
       (bytes_append (field 18 (two (total r))) (from_19 a r) (bytes_field 18 (two (total r)) (omega arith) (omega arith) (bytes_two (total r) total_fit))
       (bytes_append (field 19 a) (field 20 r) (bytes_field 19 a (omega arith) angles_fit (bytes_angles a (meets_facts p (shape_of p a r) best.meets_all).angles-ok))
       (bytes_field 20 r (omega arith) rights_fit bytes_rights)))
+
+  written_bytes : all_bytes (file_bytes fs a r) ≡ true
+  written_bytes = bytes_append (count_bytes fs a r) (sum_bytes fs r) bytes_counts (bytes_sum (has_tag 8 fs))
 
   pub shape_bytes_fit : all_bytes (shape_bytes fs (shape_of p a r)) ≡ true
   shape_bytes_fit = ap all_bytes (shape-bytes s a r e best.meets_all counts) ∙ written_bytes

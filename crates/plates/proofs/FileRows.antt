@@ -9,12 +9,12 @@ use Rattle.fields.specs.Writing.{Written}
 use Rattle.fields.proofs.Puts.{put_front, written_then}
 use Rattle.shapes.specs.declared.counts.Counts.{Counts}
 use Rattle.plates.specs.Shapes.{total}
-use Rattle.plates.specs.Files.{Field, walk_all, two, field, file_bytes}
+use Rattle.plates.specs.Files.{Field, walk_all, two, field, count_bytes, sum_bytes, file_bytes}
 use Rattle.plates.specs.Says.{file_long}
 use Rattle.plates.specs.Encodes.{FileGiven, FileWritten}
 use Rattle.plates.specs.declared.reading.PlateList.{PlateList}
-use Rattle.plates.proofs.HeldLists.{list_laid, list_few, long_is}
-use Rattle.plates.proofs.ShapeFile.{bytes_long}
+use Rattle.plates.proofs.HeldLists.{list_laid, list_few, list_darts}
+use Rattle.plates.proofs.ShapeFile.{sum_long, bytes_long}
 
 module _ (l : PlateList) (k : Counts) (g : FileGiven l.plate.darts k.angles.now k.rights.now) where
   abbrev fs : List Field
@@ -38,33 +38,36 @@ module _ (l : PlateList) (k : Counts) (g : FileGiven l.plate.darts k.angles.now 
   pub rights_many : length r ≡ length a
   rights_many = k.counted.same_length
 
-  -- there is room for the four fields
-  pub room_is : 16 + (length a + length r) ≡ file_long l.bytes.now
-  room_is = omega (arith, long_is l, g.angles_many, rights_many)
+  -- there is room for the four fields and the sum
+  pub room_is : 16 + (length a + length r) + length (sum_bytes fs r) ≡ file_long l.bytes.now
+  room_is = omega (arith, list_darts l, (list_laid l).ends_even, g.angles_many, rights_many, sum_long fs r)
 
   long_same : length (file_bytes fs a r) ≡ file_long l.bytes.now
-  long_same = bytes_long fs a r (list_laid l).revision ∙ room_is
+  long_same = omega (arith, bytes_long fs a r (list_laid l).revision, sum_long fs r, room_is)
 
   abbrev rows : List ℕ → List ℕ → List ℕ
   rows v b = field 17 v ++ (field 18 b ++ (field 19 a ++ field 20 r))
 
   -- the whole file
-  pub file_written : {b out o1 o2 o3 o4 : List ℕ} {n1 n2 n3 n4 : ℕ} → b ≡ two (total r) → file_long l.bytes.now ≤ length out
+  pub file_written : {b out o1 o2 o3 o4 o5 : List ℕ} {n1 n2 n3 n4 n5 : ℕ} → b ≡ two (total r) → file_long l.bytes.now ≤ length out
       → Written 0 (field 17 c) out o1 n1 → length o1 ≡ length out
       → Written n1 (field 18 b) o1 o2 n2 → length o2 ≡ length o1
       → Written n2 (field 19 a) o2 o3 n3 → length o3 ≡ length o2
-      → Written n3 (field 20 r) o3 o4 n4 → FileWritten l.bytes.now a r out o4 n4
-  file_written {b} {out} {o1} {o2} {o3} {o4} {n1} {n2} {n3} {n4} sum enough w1 l1 w2 l2 w3 l3 w4 =
+      → Written n3 (field 20 r) o3 o4 n4 → length o4 ≡ length o3
+      → Written n4 (sum_bytes fs r) o4 o5 n5 → FileWritten l.bytes.now a r out o5 n5
+  file_written {b} {out} {o1} {o2} {o3} {o4} {o5} {n1} {n2} {n3} {n4} {n5} sum enough w1 l1 w2 l2 w3 l3 w4 l4 w5 =
       let two_long : length b ≡ 2 = ap length sum in
       let e1 : n1 ≡ 5 = omega (arith, revision_two, w1.behind) in
       let e2 : n2 ≡ 10 = omega (arith, w2.behind) in
       let e3 : n3 ≡ 13 + length a = omega (arith, w3.behind) in
-      let room : 16 + (length a + length r) ≤ length out = omega (arith, room_is) in
-      let all : Written 0 (rows c b) out o4 n4 =
+      let room : 16 + (length a + length r) + length (sum_bytes fs r) ≤ length out = omega (arith, room_is) in
+      let four : Written 0 (rows c b) out o4 n4 =
       written_then (omega arith) w1
       (written_then (omega arith) w2
       (written_then (omega arith) w3 w4)) in
-      let done : Written 0 (file_bytes fs a r) out o4 n4 = subst (λ (x : List ℕ). Written 0 x out o4 n4) (ap₂ rows l.contents.revision sum) all in
+      let counts : Written 0 (count_bytes fs a r) out o4 n4 = subst (λ (x : List ℕ). Written 0 x out o4 n4) (ap₂ rows l.contents.revision sum) four in
+      let e4 : n4 ≡ 16 + (length a + length r) = omega (arith, w4.behind) in
+      let done : Written 0 (file_bytes fs a r) out o5 n5 = written_then (omega arith) counts w5 in
       record {
         bytes = done.bytes ∙ put_front (file_bytes fs a r) out;
         long = omega (arith, done.behind, long_same);

@@ -15,8 +15,8 @@ use Rattle.plates.specs.Says.{file_fault, check_fault}
 use Rattle.plates.proofs.Lists.{list_walked}
 
 -- a number that is the walk's where this is one
-module _ (k : Bool) (F : List ℕ → ℕ) (first : (r : List ℕ) → ((walk_all k r).number ≡ 0 → ⊥) → F r ≡ (walk_all k r).number) (n : ℕ) (s : List ℕ) (m : 748 ≤ n) where
-  front_by : ((walk_all k s).number ≡ 0 → length s ≤ 748) → F (take n s) ≡ F s
+module _ (k : Bool) (F : List ℕ → ℕ) (first : (r : List ℕ) → ((walk_all k r).number ≡ 0 → ⊥) → F r ≡ (walk_all k r).number) (n : ℕ) (s : List ℕ) (m : 879 ≤ n) where
+  front_by : ((walk_all k s).number ≡ 0 → length s ≤ 879) → F (take n s) ≡ F s
   front_by short = go (walk_all k s).number refl
     where
       go : (x : ℕ) → (walk_all k s).number ≡ x → F (take n s) ≡ F s
@@ -25,14 +25,14 @@ module _ (k : Bool) (F : List ℕ → ℕ) (first : (r : List ℕ) → ((walk_al
           let w = walk_front true k n s m in
           first (take n s) (λ z. omega (arith, w, e, z)) ∙ w ∙ sym (first s (λ z. omega (arith, e, z)))
 
-front_list : (n : ℕ) (s : List ℕ) → 748 ≤ n → list_fault (take n s) ≡ list_fault s
+front_list : (n : ℕ) (s : List ℕ) → 879 ≤ n → list_fault (take n s) ≡ list_fault s
 front_list n s m = front_by false list_fault (λ r. first_some (walk_all false r).number _) n s m (λ e. omega (arith, list_longest s e))
 
-front_file : (s : List ℕ) (n : ℕ) (t : List ℕ) → 748 ≤ n → file_fault s (take n t) ≡ file_fault s t
+front_file : (s : List ℕ) (n : ℕ) (t : List ℕ) → 879 ≤ n → file_fault s (take n t) ≡ file_fault s t
 front_file s n t m = front_by true (file_fault s) (λ r. first_some (walk_all true r).number _) n t m (λ e. omega (arith, shape_longest t e))
 
 -- a list that is accepted is short, so it is whole
-front_check : (n : ℕ) (s t : List ℕ) → 748 ≤ n → check_fault (take n s) (take n t) ≡ check_fault s t
+front_check : (n : ℕ) (s t : List ℕ) → 879 ≤ n → check_fault (take n s) (take n t) ≡ check_fault s t
 front_check n s t m = go (list_fault s) refl
   where
     go : (x : ℕ) → list_fault s ≡ x → check_fault (take n s) (take n t) ≡ check_fault s t
@@ -43,5 +43,5 @@ front_check n s t m = go (list_fault s) refl
         let w = front_list n s m in
         first_some (list_fault (take n s)) _ (λ z. omega (arith, w, e, z)) ∙ w ∙ sym (first_some (list_fault s) _ (λ z. omega (arith, e, z)))
 
-pub fronts : (n : ℕ) (s t : List ℕ) → 748 ≤ n → (list_fault (take n s) ≡ list_fault s) × (check_fault (take n s) (take n t) ≡ check_fault s t)
+pub fronts : (n : ℕ) (s t : List ℕ) → 879 ≤ n → (list_fault (take n s) ≡ list_fault s) × (check_fault (take n s) (take n t) ≡ check_fault s t)
 fronts n s t m = (front_list n s m, front_check n s t m)

@@ -1,20 +1,21 @@
 -- What a list and a shape file that were read hold: the contents of their fields by tag, the list's plate, an angle and right bends for each of its darts. Assumes nothing.
 use mathlib.Core.Path.{◌≡◌, refl, sym, ap, ap₂, ◌∙◌}
-use mathlib.Core.Bool.{Bool, true, false, ◌||◌, not}
+use mathlib.Core.Bool.{Bool, true, false, ◌&&◌, ◌||◌, not}
 use mathlib.Core.List.{List, []}
-use Prim.Native.Nat.{ℕ, ◌+◌, ◌*◌, ◌/◌, ◌%◌, ◌≤◌}
+use Prim.Native.Nat.{ℕ, ◌/◌, ◌%◌, ◌≤◌}
 use native.Mathlib.Omega.{arith}
 use denote.Bor.{Bor}
 use lib.Dec.{eqb}
 use lib.ListN.{length}
+use borrow.Author.Tests.{eq-eqb, ne_eqb}
 use Rattle.std.specs.Prelude.{Option, Some, None, is_some, unwrap_or, option_map}
 use Rattle.fields.specs.Says.{ListFieldsOf}
 use Rattle.fields.specs.declared.ListFields.{ListFields}
-use Rattle.fields.proofs.Added.{is_some-content_at, unwrap_or-content_at}
+use Rattle.fields.proofs.Added.{unwrap_or-content_at, there_by, content_by}
 use Rattle.embedding.proofs.Holding.{held_darts}
 use Rattle.plates.specs.Plates.{darts, strips}
-use Rattle.plates.specs.Files.{Field, has_tag, content_of, walk_all, plate_in, limits_fit, plate_of}
-use Rattle.plates.specs.Says.{file_long}
+use Rattle.plates.specs.Shapes.{prices_ok}
+use Rattle.plates.specs.Files.{Field, has_tag, content_of, content_at, walk_all, plate_in, limits_fit, prices_fit, plate_of, prices_fit_by}
 use Rattle.plates.specs.declared.reading.PlateList.{PlateList}
 use Rattle.plates.proofs.Contents as Contents
 use Rattle.plates.proofs.Lists.{list_walked}
@@ -23,25 +24,53 @@ unwrapped : (o : Option (Bor (List ℕ))) (c : Bor (List ℕ)) → (unwrap_or o 
 unwrapped (Some b) c = refl
 unwrapped None c = refl
 
--- the contents of a list's fields
-module _ {fs : List Field} {f : ListFields} (h : ListFieldsOf fs f) where
-  -- the limits, nothing where there are none
-  pub contents_limits : (c : Bor (List ℕ)) → c.now ≡ [] → (unwrap_or f.limits c).now ≡ content_of 7 fs
-  contents_limits c e = unwrapped f.limits c ∙ ap₂ (λ (o : Option (List ℕ)) (d : List ℕ). unwrap_or o d) h.limits e ∙ unwrap_or-content_at 7 fs
+-- the content of a tag that may be absent
+module _ (fs : List Field) (t : ℕ) (o : Option (Bor (List ℕ))) (h : option_map (λ b. b.now) o ≡ content_at t fs) where
+  -- nothing in its place where it is
+  or_nothing : (c : Bor (List ℕ)) → c.now ≡ [] → (unwrap_or o c).now ≡ content_of t fs
+  or_nothing c e = unwrapped o c ∙ ap₂ (λ (o : Option (List ℕ)) (d : List ℕ). unwrap_or o d) h e ∙ unwrap_or-content_at t fs
 
-  there : {o : Option (Bor (List ℕ))} → f.limits ≡ o → is_some (option_map (λ b. b.now) o) ≡ has_tag 7 fs
-  there e = ap (λ o. is_some (option_map (λ b. b.now) o)) (sym e) ∙ ap is_some h.limits ∙ is_some-content_at 7 fs
+  pub there_is : {q : Option (Bor (List ℕ))} → o ≡ q → is_some (option_map (λ b. b.now) q) ≡ has_tag t fs
+  there_is e = there_by t fs (ap (option_map (λ b. b.now)) (sym e) ∙ h)
+
+  pub content_is : {c : Bor (List ℕ)} → o ≡ Some c → c.now ≡ content_of t fs
+  content_is e = content_by t fs (ap (option_map (λ b. b.now)) (sym e) ∙ h)
+
+  pub no_content : o ≡ None → [] ≡ content_of t fs
+  no_content e = content_by t fs (ap (option_map (λ b. b.now)) (sym e) ∙ h)
+
+-- the limits and the prices of a list, told whether there are any
+module _ {fs : List Field} {f : ListFields} (h : ListFieldsOf fs f) where
+  pub contents_limits : (c : Bor (List ℕ)) → c.now ≡ [] → (unwrap_or f.limits c).now ≡ content_of 7 fs
+  contents_limits = or_nothing fs 7 _ h.limits
+
+  pub contents_prices : (c : Bor (List ℕ)) → c.now ≡ [] → (unwrap_or f.prices c).now ≡ content_of 8 fs
+  contents_prices = or_nothing fs 8 _ h.prices
 
   abbrev fit_by : Bool → Bool
   fit_by given = not given || eqb (length (content_of 7 fs)) (strips (plate_in fs))
 
-  pub some_fit : {l : Bor (List ℕ)} → f.limits ≡ Some l → eqb (length l.now) (length f.ends.now / 2) ≡ limits_fit fs
-  some_fit {l} e =
-      let limits : l.now ≡ content_of 7 fs = ap (λ o. unwrap_or o []) (ap (option_map (λ b. b.now)) (sym e) ∙ h.limits) ∙ unwrap_or-content_at 7 fs in
-      ap₂ (λ (x y : List ℕ). eqb (length x) (length y / 2)) limits h.ends ∙ ap fit_by (there e)
+  pub limits_fit_some : {l : Bor (List ℕ)} → f.limits ≡ Some l → eqb (length l.now) (length f.ends.now / 2) ≡ limits_fit fs
+  limits_fit_some e = ap₂ (λ (x y : List ℕ). eqb (length x) (length y / 2)) (content_is fs 7 _ h.limits e) h.ends ∙ ap fit_by (there_is fs 7 _ h.limits e)
 
-  pub none_fit : f.limits ≡ None → true ≡ limits_fit fs
-  none_fit e = ap fit_by (there e)
+  pub limits_fit_none : f.limits ≡ None → true ≡ limits_fit fs
+  limits_fit_none e = ap fit_by (there_is fs 7 _ h.limits e)
+
+  abbrev priced_by : Bool → Bool
+  priced_by given = prices_fit_by given (strips (plate_in fs)) (content_of 8 fs)
+
+  module _ {l : Bor (List ℕ)} (e : f.prices ≡ Some l) where
+    priced : (eqb (length l.now) (length f.ends.now / 2) && prices_ok l.now) ≡ prices_fit fs
+    priced = ap₂ (λ (x y : List ℕ). eqb (length x) (length y / 2) && prices_ok x) (content_is fs 8 _ h.prices e) h.ends ∙ ap priced_by (there_is fs 8 _ h.prices e)
+
+    pub prices_fit_enough : length l.now ≡ length f.ends.now / 2 → prices_ok l.now ≡ prices_fit fs
+    prices_fit_enough n = ap (λ (b : Bool). b && prices_ok l.now) (sym (eq-eqb (length l.now) (length f.ends.now / 2) n)) ∙ priced
+
+    pub prices_fit_other : (length l.now ≡ length f.ends.now / 2 → ⊥) → false ≡ prices_fit fs
+    prices_fit_other n = ap (λ (b : Bool). b && prices_ok l.now) (sym (ne_eqb (length l.now) (length f.ends.now / 2) n)) ∙ priced
+
+  pub prices_fit_none : f.prices ≡ None → true ≡ prices_fit fs
+  prices_fit_none e = ap priced_by (there_is fs 8 _ h.prices e)
 
 -- their lengths in a list that passed the walk
 pub contents_lengths : (s : List ℕ) {f : ListFields} → (walk_all false s).number ≡ 0 → ListFieldsOf (walk_all false s).fields f → (length f.ends.now ≤ 256) × (length f.ends.now % 2 ≡ 0) × (length f.order.now ≤ 256)
@@ -65,6 +94,3 @@ module _ (l : PlateList) where
 
   pub list_even : l.plate.darts % 2 ≡ 0
   list_even = ap (λ (n : ℕ). n % 2) list_darts ∙ list_laid.ends_even
-
-  pub long_is : 16 + 2 * l.plate.darts ≡ file_long s
-  long_is = omega (arith, list_darts, list_laid.ends_even)

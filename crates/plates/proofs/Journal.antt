@@ -1,16 +1,16 @@
--- The list after a step: its fields stand in tag order with lengths as laid out, so the walk takes them; its plate is the step's, which is accepted.
+-- The list after a step: its fields stand in tag order with lengths as laid out, so the walk takes them; its plate is the step's, which is accepted; limits and prices are one field each, and one law serves both.
 use mathlib.Core.Path.{◌≡◌, refl, sym, ap, ap₂, ◌∙◌}
-use mathlib.Core.Bool.{Bool, true, false, not}
-use mathlib.Core.List.{List, [], ◌∷◌, ◌++◌}
+use mathlib.Core.Bool.{Bool, true, false, ◌&&◌, ◌||◌, not}
+use mathlib.Core.List.{List, [], ◌∷◌, ◌++◌, append-nil}
 use Prim.Native.Nat.{ℕ, zero, suc, ◌+◌, ◌*◌, ◌%◌, ◌≤◌, ◌<◌}
 use native.Mathlib.Omega.{arith}
 use borrow.Author.Tests.{eqb-true, eq-eqb, le-leb}
-use lib.Dec.{eqb, leb}
+use lib.Dec.{eqb, ltb, leb}
 use lib.ListN.{length, get_or, set, length-append, length-set, get_or-append}
 use lib.Seq.{get_or_at}
-use Rattle.finite.proofs.Tests.{and_both}
+use Rattle.finite.proofs.Tests.{and_left, and_right, and_both}
 use Rattle.fields.proofs.Laid.{absent_none}
-use Rattle.fields.proofs.Rising.{bytes_cons_long}
+use Rattle.fields.proofs.Rising.{bytes_row, bytes_cons_long}
 use Rattle.fields.proofs.Runs.{Run, ended, run_answer}
 use Rattle.fields.proofs.Sorted.{run_front}
 use Rattle.embedding.specs.Read.{Accepted}
@@ -20,13 +20,12 @@ use Rattle.embedding.proofs.Faultless.{faultless}
 use Rattle.embedding.proofs.Replays.{editing}
 use Rattle.plates.specs.Answers.{Listed}
 use Rattle.plates.specs.Plates.{pick, first_of, when, Plate, darts, strips, ends_at, plate_fault}
-use Rattle.plates.specs.Files.{Field, Walk, walk, has_tag, content_of, walk_all, fault_from, limits_fault, list_fault, plate_in, plate_of, limits_of}
+use Rattle.plates.specs.Shapes.{prices_ok}
+use Rattle.plates.specs.Files.{Field, Walk, walk, tag_ok, long_ok, has_tag, content_of, add_field, last_tag, walk_all, fault_from, limits_fit, prices_fit, list_fault, plate_in, plate_of, limits_of, prices_of, is_priced}
 use Rattle.plates.specs.Ordering.{bytes_in}
-use Rattle.plates.specs.Limits.{limit_at}
-use Rattle.plates.specs.Journal.{Step, Split, Hang, Join, step_fault, stepped, replayed, new_limit, limits_with, plate_fields, fields_after, list_after, edit_fault, EditWith, EditSays, replayed_list, AfterStep, Journal}
+use Rattle.plates.specs.Journal.{Step, Split, Hang, Join, step_fault, stepped, replayed, new_rate, new_limit, new_price, rate_with, plate_fields, fields_after, list_after, edit_fault, EditWith, EditSays, replayed_list, AfterStep, Journal}
 use Rattle.plates.proofs.Contents.{list_fields}
-use Rattle.plates.proofs.Lists.{list_walked, list_accepted}
-use Rattle.plates.proofs.Limits.{one_each}
+use Rattle.plates.proofs.Lists.{list_walked, list_accepted, priced_fit, list_fair, limits_each, prices_each}
 use Rattle.plates.proofs.OneAnswer.{gives_only}
 
 -- a step makes one strip
@@ -36,11 +35,66 @@ step_darts p (Split s) =
 step_darts p (Hang d) = omega (arith, length-append p.ends (ends_at p d ∷ (p.posts ∷ [])))
 step_darts p (Join d e) = omega (arith, length-append p.ends (ends_at p d ∷ (ends_at p e ∷ [])))
 
--- the field of limits, or nothing
-abbrev limits_if : Bool → List ℕ → List Field
-limits_if b c = pick b (record { tag = 7; content = c } ∷ []) []
+-- ---- one field of limits or prices, or nothing
+abbrev rate_if : ℕ → Bool → List ℕ → List Field
+rate_if t b c = pick b (record { tag = t; content = c } ∷ []) []
 
--- a plate's fields in tag order
+rate_long : (t : ℕ) (fs : List Field) (n : ℕ) → length (bytes_in (rate_with t fs n)) ≡ when (has_tag t fs) (4 + length (content_of t fs))
+rate_long t fs n = by (has_tag t fs)
+  where
+    by : (b : Bool) → length (bytes_in (rate_if t b (content_of t fs ++ (n ∷ [])))) ≡ when b (4 + length (content_of t fs))
+    by true = omega (arith, bytes_cons_long (record { tag = t; content = content_of t fs ++ (n ∷ []) }) [], length-append (content_of t fs) (n ∷ []))
+    by false = refl
+
+-- the bytes of both fields
+rates_long : (fs : List Field) (n m : ℕ) → length (bytes_in (rate_with 7 fs n ++ rate_with 8 fs m)) ≡ when (has_tag 7 fs) (4 + length (content_of 7 fs)) + when (has_tag 8 fs) (4 + length (content_of 8 fs))
+rates_long fs n m =
+    omega (arith, ap (length {A = ℕ}) (bytes_row (rate_with 7 fs n) (rate_with 8 fs m)), length-append (bytes_in (rate_with 7 fs n)) (bytes_in (rate_with 8 fs m)), rate_long 7 fs n, rate_long 8 fs m)
+
+-- behind fields with lower tags
+rate_run : (met : List Field) (t : ℕ) (c : List ℕ) (rest : List Field) (b : Bool) → tag_ok false t ≡ true → has_tag t met ≡ false → ltb t (last_tag met) ≡ false → (b ≡ true → long_ok false t (length c) ≡ true)
+    → Run true false (pick b (add_field met (record { tag = t; content = c })) met) (bytes_in rest) rest → Run true false met (bytes_in (rate_if t b c ++ rest)) (rate_if t b c ++ rest)
+rate_run met t c rest true tag new above long r = run_front met t c (bytes_in rest) rest refl tag new above (long refl) r
+rate_run met t c rest false tag new above long r = r
+
+-- what a test of the content says of the field
+rate_fits : (test : List ℕ → Bool) (b : Bool) (c : List ℕ) {h : Bool} {x : List ℕ} → h ≡ b → x ≡ pick b c [] → (b ≡ true → test c ≡ true) → (not h || test x) ≡ true
+rate_fits test b c there is passes = ap₂ (λ (h : Bool) (x : List ℕ). not h || test x) there is ∙ by b passes
+  where
+    by : (b : Bool) → (b ≡ true → test c ≡ true) → (not b || test (pick b c [])) ≡ true
+    by true k = k refl
+    by false k = refl
+
+-- one more behind xs, by a step, where e is what a strip has with none given
+module _ (e : ℕ) (xs : List ℕ) (t : Step) where
+  abbrev with_one : List ℕ
+  with_one = xs ++ (new_rate e xs t ∷ [])
+
+  one_longer : (p : Plate) → length xs ≡ strips p → length with_one ≡ strips (stepped p t)
+  one_longer p h = omega (arith, length-append xs (new_rate e xs t ∷ []), h, step_darts p t)
+
+  rate_stays : (n : ℕ) (b : Bool) → (b ≡ true → length xs ≡ n) → (b ≡ false → xs ≡ []) → (i : ℕ) → i < n → get_or (pick b with_one []) i e ≡ get_or xs i e
+  rate_stays n true h k i l = get_or-append xs (new_rate e xs t ∷ []) e i (omega (arith, h refl))
+  rate_stays n false h k i l = ap (λ (c : List ℕ). get_or c i e) (sym (k refl))
+
+  rate_comes : (n : ℕ) (b : Bool) → (b ≡ true → length xs ≡ n) → (b ≡ false → xs ≡ []) → get_or (pick b with_one []) n e ≡ new_rate e xs t
+  rate_comes n true h k = get_or_at xs (new_rate e xs t) [] e n (h refl)
+  rate_comes n false h k = sym (of_none t) ∙ ap (λ (c : List ℕ). new_rate e c t) (sym (k refl))
+    where
+      of_none : (t : Step) → new_rate e [] t ≡ e
+      of_none (Split i) = refl
+      of_none (Hang d) = refl
+      of_none (Join d f) = refl
+
+-- prices and one more, 1 to 100
+prices_more : (ps : List ℕ) (x : ℕ) → prices_ok ps ≡ true → 1 ≤ x → x ≤ 100 → prices_ok (ps ++ (x ∷ [])) ≡ true
+prices_more [] x e l h = and_both (leb 1 x) (leb x 100 && true) (le-leb 1 x l) (and_both (leb x 100) true (le-leb x 100 h) refl)
+prices_more (q ∷ qs) x e l h =
+    let rest = and_right (leb 1 q) (leb q 100 && prices_ok qs) e in
+    and_both (leb 1 q) (leb q 100 && prices_ok (qs ++ (x ∷ []))) (and_left (leb 1 q) (leb q 100 && prices_ok qs) e)
+    (and_both (leb q 100) (prices_ok (qs ++ (x ∷ []))) (and_left (leb q 100) (prices_ok qs) rest) (prices_more qs x (and_right (leb q 100) (prices_ok qs) rest) l h))
+
+-- ---- a plate's fields in tag order
 module _ (revision : List ℕ) (p : Plate) (rest : List Field) where
   abbrev from_5 : List Field
   from_5 = record { tag = 5; content = p.outer ∷ [] } ∷ rest
@@ -65,63 +119,96 @@ module _ (revision : List ℕ) (p : Plate) (rest : List Field) where
         bytes_cons_long (record { tag = 5; content = p.outer ∷ [] }) rest,
       )
 
-pub limits_long : (fs : List Field) (n : ℕ) → length (bytes_in (limits_with fs n)) ≡ when (has_tag 7 fs) (4 + length (content_of 7 fs))
-limits_long fs n = by (has_tag 7 fs)
-  where
-    by : (b : Bool) → length (bytes_in (limits_if b (content_of 7 fs ++ (n ∷ [])))) ≡ when b (4 + length (content_of 7 fs))
-    by true = omega (arith, bytes_cons_long (record { tag = 7; content = content_of 7 fs ++ (n ∷ []) }) [], length-append (content_of 7 fs) (n ∷ []))
-    by false = refl
+-- both fields behind a plate
+module _ (revision : List ℕ) (p : Plate) where
+  abbrev rated : Bool → Bool → List ℕ → List ℕ → List Field
+  rated b d c e = plate_fields revision p (rate_if 7 b c ++ rate_if 8 d e)
 
--- a plate in order with its limits, one for each strip
-module _ (revision : List ℕ) (p : Plate) (b : Bool) (c : List ℕ) (two_long : length revision ≡ 2) (a : Accepted p) (fit : b ≡ true → length c ≡ strips p) where
+  has_limits : (b d : Bool) (c e : List ℕ) → (has_tag 7 (rated b d c e) ≡ b) × (content_of 7 (rated b d c e) ≡ pick b c [])
+  has_limits true d c e = (refl, refl)
+  has_limits false true c e = (refl, refl)
+  has_limits false false c e = (refl, refl)
+
+  has_prices : (b d : Bool) (c e : List ℕ) → (has_tag 8 (rated b d c e) ≡ d) × (content_of 8 (rated b d c e) ≡ pick d e [])
+  has_prices true true c e = (refl, refl)
+  has_prices true false c e = (refl, refl)
+  has_prices false true c e = (refl, refl)
+  has_prices false false c e = (refl, refl)
+
+  -- the fields met before the prices
+  abbrev unpriced : Bool → List ℕ → List Field
+  unpriced b c = pick b (add_field (plate_fields revision p []) (record { tag = 7; content = c })) (plate_fields revision p [])
+
+  no_prices : (b : Bool) (c : List ℕ) → (has_tag 8 (unpriced b c) ≡ false) × (ltb 8 (last_tag (unpriced b c)) ≡ false)
+  no_prices true c = (refl, refl)
+  no_prices false c = (refl, refl)
+
+-- a plate in order with its limits and prices, one for each strip
+record Rated (revision : List ℕ) (p : Plate) (b d : Bool) (c e : List ℕ) : Type 0 where
+  two_long : length revision ≡ 2
+  accepted : Accepted p
+  limits-fit : b ≡ true → length c ≡ strips p
+  prices-fit : d ≡ true → length e ≡ strips p
+  prices-ok : d ≡ true → prices_ok e ≡ true
+
+module _ {revision : List ℕ} {p : Plate} {b d : Bool} {c e : List ℕ} (r : Rated revision p b d c e) where
   abbrev fields : List Field
-  fields = plate_fields revision p (limits_if b c)
+  fields = rated revision p b d c e
 
   darts_most : darts p ≤ 256
-  darts_most = darts_few p (faultless p a.no_fault) (accepted_ordered p a)
+  darts_most = darts_few p (faultless p r.accepted.no_fault) (accepted_ordered p r.accepted)
 
   order_long : length p.order ≡ darts p
-  order_long = (faultless p a.no_fault).all_ordered
+  order_long = (faultless p r.accepted.no_fault).all_ordered
 
-  limits_run : (b : Bool) → (b ≡ true → length c ≡ strips p) → Run true false (plate_fields revision p []) (bytes_in (limits_if b c)) (limits_if b c)
-  limits_run true h = run_front (plate_fields revision p []) 7 c [] [] refl refl refl (le-leb (length c) 128 (omega (arith, h refl, darts_most))) (ended refl)
-  limits_run false h = ended refl
+  few : (xs : List ℕ) → length xs ≡ strips p → leb (length xs) 128 ≡ true
+  few xs h = le-leb (length xs) 128 (omega (arith, h, darts_most))
+
+  rates_run : Run true false (plate_fields revision p []) (bytes_in (rate_if 7 b c ++ rate_if 8 d e)) (rate_if 7 b c ++ rate_if 8 d e)
+  rates_run =
+      let none = no_prices revision p b c in
+      rate_run (plate_fields revision p []) 7 c (rate_if 8 d e) b refl refl refl (λ h. few c (r.limits-fit h))
+      (prices_run d (rate_run (unpriced revision p b c) 8 e [] d refl none.0 none.1 (λ h. few e (r.prices-fit h)) (ended refl)))
+    where
+      prices_run : (d : Bool) → Run true false (unpriced revision p b c) (bytes_in (rate_if 8 d e ++ [])) (rate_if 8 d e ++ []) → Run true false (unpriced revision p b c) (bytes_in (rate_if 8 d e)) (rate_if 8 d e)
+      prices_run true w = w
+      prices_run false w = w
 
   run : Run true false [] (bytes_in fields) fields
   run =
-      let rest = limits_if b c in
+      let rest = rate_if 7 b c ++ rate_if 8 d e in
       let f1 : Field = record { tag = 1; content = revision } in
       let f2 : Field = record { tag = 2; content = p.posts ∷ [] } in
       let f3 : Field = record { tag = 3; content = p.ends } in
       let f4 : Field = record { tag = 4; content = p.order } in
-      run_front [] 1 revision (bytes_in (from_2 revision p rest)) (from_2 revision p rest) refl refl refl (eq-eqb (length revision) 2 two_long)
-      (run_front (f1 ∷ []) 2 (p.posts ∷ []) (bytes_in (from_3 revision p rest)) (from_3 revision p rest) refl refl refl refl
-      (run_front (f1 ∷ (f2 ∷ [])) 3 p.ends (bytes_in (from_4 revision p rest)) (from_4 revision p rest) refl refl refl
-      (and_both (leb (darts p) 256) (eqb (darts p % 2) 0) (le-leb (darts p) 256 darts_most) (eq-eqb (darts p % 2) 0 a.even_darts))
-      (run_front (f1 ∷ (f2 ∷ (f3 ∷ []))) 4 p.order (bytes_in (from_5 revision p rest)) (from_5 revision p rest) refl refl refl
+      run_front [] 1 revision (bytes_in (from_2 revision p rest)) (from_2 revision p rest) refl refl refl refl (eq-eqb (length revision) 2 r.two_long)
+      (run_front (f1 ∷ []) 2 (p.posts ∷ []) (bytes_in (from_3 revision p rest)) (from_3 revision p rest) refl refl refl refl refl
+      (run_front (f1 ∷ (f2 ∷ [])) 3 p.ends (bytes_in (from_4 revision p rest)) (from_4 revision p rest) refl refl refl refl
+      (and_both (leb (darts p) 256) (eqb (darts p % 2) 0) (le-leb (darts p) 256 darts_most) (eq-eqb (darts p % 2) 0 r.accepted.even_darts))
+      (run_front (f1 ∷ (f2 ∷ (f3 ∷ []))) 4 p.order (bytes_in (from_5 revision p rest)) (from_5 revision p rest) refl refl refl refl
       (le-leb (length p.order) 256 (omega (arith, order_long, darts_most)))
-      (run_front (f1 ∷ (f2 ∷ (f3 ∷ (f4 ∷ [])))) 5 (p.outer ∷ []) (bytes_in rest) rest refl refl refl refl
-      (limits_run b fit)))))
+      (run_front (f1 ∷ (f2 ∷ (f3 ∷ (f4 ∷ [])))) 5 (p.outer ∷ []) (bytes_in rest) rest refl refl refl refl refl
+      rates_run))))
 
   plate_walked : walk_all false (bytes_in fields) ≡ walk 0 fields
   plate_walked = run_answer true false (bytes_in fields) fields run refl
 
-  limits_none : (b : Bool) → (b ≡ true → length c ≡ strips p) → limits_fault (plate_fields revision p (limits_if b c)) ≡ 0
-  limits_none true h = ap (λ (t : Bool). when (not t) 23) (eq-eqb (length c) (strips p) (h refl))
-  limits_none false h = refl
+  all_limits : limits_fit fields ≡ true
+  all_limits =
+      let (there, is) = has_limits revision p b d c e in
+      rate_fits (λ (l : List ℕ). eqb (length l) (strips p)) b c there is (λ h. eq-eqb (length c) (strips p) (r.limits-fit h))
+
+  all_prices : prices_fit fields ≡ true
+  all_prices =
+      let (there, is) = has_prices revision p b d c e in
+      rate_fits (λ (l : List ℕ). eqb (length l) (strips p) && prices_ok l) d e there is (λ h. and_both (eqb (length e) (strips p)) (prices_ok e) (eq-eqb (length e) (strips p) (r.prices-fit h)) (r.prices-ok h))
 
   plate_accepted : list_fault (bytes_in fields) ≡ 0
-  plate_accepted = ap (fault_from plate_fault) plate_walked ∙ ap₂ (λ (x y : ℕ). first_of x y) a.no_fault (limits_none b fit)
+  plate_accepted =
+      ap (fault_from plate_fault) plate_walked
+      ∙ ap₂ (λ (x y : ℕ). first_of x y) r.accepted.no_fault (ap₂ (λ (x y : Bool). first_of (when (not x) 23) (when (not y) 38)) all_limits all_prices)
 
--- the limits of a list after a step
-has_limits : (revision : List ℕ) (p : Plate) (b : Bool) (c : List ℕ) → has_tag 7 (plate_fields revision p (limits_if b c)) ≡ b
-has_limits revision p true c = refl
-has_limits revision p false c = refl
-
-limits_content : (revision : List ℕ) (p : Plate) (b : Bool) (c : List ℕ) → content_of 7 (plate_fields revision p (limits_if b c)) ≡ pick b c []
-limits_content revision p true c = refl
-limits_content revision p false c = refl
-
+-- ---- the list after a step
 module _ (s : List ℕ) (t : Step) (none : list_fault s ≡ 0) (go : step_fault (plate_of s) t ≡ 0) where
   abbrev fs : List Field
   fs = (walk_all false s).fields
@@ -132,75 +219,78 @@ module _ (s : List ℕ) (t : Step) (none : list_fault s ≡ 0) (go : step_fault 
   abbrev q : Plate
   q = stepped p t
 
-  abbrev limits : List ℕ
-  limits = limits_of s
+  abbrev more_limits : List ℕ
+  more_limits = with_one 255 (limits_of s) t
 
-  abbrev more : List ℕ
-  more = limits ++ (new_limit limits t ∷ [])
+  abbrev more_prices : List ℕ
+  more_prices = with_one 1 (prices_of s) t
 
-  q_accepted : Accepted q
-  q_accepted = (editing.step p (list_accepted s none) t go).accepted
+  price_fair : (t : Step) → (1 ≤ new_price (prices_of s) t) × (new_price (prices_of s) t ≤ 100)
+  price_fair (Split i) = ((list_fair s none).some_price i, (list_fair s none).price_most i)
+  price_fair (Hang d) = (omega arith, omega arith)
+  price_fair (Join d e) = (omega arith, omega arith)
 
-  two_long : length (content_of 1 fs) ≡ 2
-  two_long = (list_fields s (list_walked s none)).revision
+  old_ok : is_priced s ≡ true → prices_ok (prices_of s) ≡ true
+  old_ok h = and_right (eqb (length (prices_of s)) (strips p)) _ (priced_fit s none h)
 
-  fit : has_tag 7 fs ≡ true → length more ≡ strips q
-  fit e = omega (arith, length-append limits (new_limit limits t ∷ []), one_each s none e, step_darts p t)
+  grown : Rated (content_of 1 fs) q (has_tag 7 fs) (has_tag 8 fs) more_limits more_prices
+  grown =
+      record {
+        two_long = (list_fields s (list_walked s none)).revision;
+        accepted = (editing.step p (list_accepted s none) t go).accepted;
+        limits-fit = λ h. one_longer 255 (limits_of s) t p (limits_each s none h);
+        prices-fit = λ h. one_longer 1 (prices_of s) t p (prices_each s none h);
+        prices-ok = λ h. prices_more (prices_of s) (new_price (prices_of s) t) (old_ok h) (price_fair t).0 (price_fair t).1;
+      }
 
   walked : walk_all false (list_after s t) ≡ walk 0 (fields_after fs t)
-  walked = plate_walked (content_of 1 fs) q (has_tag 7 fs) more two_long q_accepted fit
+  walked = plate_walked grown
 
-  limits_now : limits_of (list_after s t) ≡ pick (has_tag 7 fs) more []
-  limits_now = ap (λ (w : Walk). content_of 7 w.fields) walked ∙ limits_content (content_of 1 fs) q (has_tag 7 fs) more
+  limits_now : limits_of (list_after s t) ≡ pick (has_tag 7 fs) more_limits []
+  limits_now = ap (λ (w : Walk). content_of 7 w.fields) walked ∙ (has_limits (content_of 1 fs) q (has_tag 7 fs) (has_tag 8 fs) more_limits more_prices).1
 
-  none_there : has_tag 7 fs ≡ false → limits ≡ []
-  none_there = absent_none 7 fs
+  prices_now : prices_of (list_after s t) ≡ pick (has_tag 8 fs) more_prices []
+  prices_now = ap (λ (w : Walk). content_of 8 w.fields) walked ∙ (has_prices (content_of 1 fs) q (has_tag 7 fs) (has_tag 8 fs) more_limits more_prices).1
 
-  old_limits : (i : ℕ) → i < strips p → limit_at (list_after s t) i ≡ limit_at s i
-  old_limits i l = ap (λ (c : List ℕ). get_or c i 255) limits_now ∙ by (has_tag 7 fs) (one_each s none) none_there
-    where
-      by : (b : Bool) → (b ≡ true → length limits ≡ strips p) → (b ≡ false → limits ≡ []) → get_or (pick b more []) i 255 ≡ get_or limits i 255
-      by true h k = get_or-append limits (new_limit limits t ∷ []) 255 i (omega (arith, h refl))
-      by false h k = ap (λ (c : List ℕ). get_or c i 255) (sym (k refl))
-
-  no_limit : (t : Step) → new_limit [] t ≡ 255
-  no_limit (Split i) = refl
-  no_limit (Hang d) = refl
-  no_limit (Join d e) = refl
-
-  new-limit : limit_at (list_after s t) (strips p) ≡ new_limit limits t
-  new-limit = ap (λ (c : List ℕ). get_or c (strips p) 255) limits_now ∙ by (has_tag 7 fs) (one_each s none) none_there
-    where
-      by : (b : Bool) → (b ≡ true → length limits ≡ strips p) → (b ≡ false → limits ≡ []) → get_or (pick b more []) (strips p) 255 ≡ new_limit limits t
-      by true h k = get_or_at limits (new_limit limits t) [] 255 (strips p) (h refl)
-      by false h k = sym (no_limit t) ∙ ap (λ (c : List ℕ). new_limit c t) (sym (k refl))
-
-  longest : length (list_after s t) ≤ 662
+  longest : length (list_after s t) ≤ 793
   longest =
       omega (
         arith,
-        plate_fields_long (content_of 1 fs) q (limits_with fs (new_limit limits t)),
-        two_long,
-        order_long (content_of 1 fs) q (has_tag 7 fs) more two_long q_accepted fit,
-        darts_most (content_of 1 fs) q (has_tag 7 fs) more two_long q_accepted fit,
-        limits_long fs (new_limit limits t),
-        by (has_tag 7 fs) fit,
+        plate_fields_long (content_of 1 fs) q (rate_with 7 fs (new_limit (limits_of s) t) ++ rate_with 8 fs (new_price (prices_of s) t)),
+        grown.two_long,
+        order_long grown,
+        darts_most grown,
+        rates_long fs (new_limit (limits_of s) t) (new_price (prices_of s) t),
+        by (limits_of s) (has_tag 7 fs) (limits_each s none),
+        by (prices_of s) (has_tag 8 fs) (prices_each s none),
       )
     where
-      by : (b : Bool) → (b ≡ true → length more ≡ strips q) → when b (4 + length limits) ≤ 131
-      by true h = omega (arith, h refl, length-append limits (new_limit limits t ∷ []), darts_most (content_of 1 fs) q (has_tag 7 fs) more two_long q_accepted fit)
-      by false h = omega arith
+      by : (xs : List ℕ) (b : Bool) → (b ≡ true → length xs ≡ strips p) → when b (4 + length xs) ≤ 131
+      by xs true h = omega (arith, h refl, step_darts p t, darts_most grown)
+      by xs false h = omega arith
+
+  same_without : is_priced s ≡ false → fields_after fs t ≡ plate_fields (content_of 1 fs) q (rate_with 7 fs (new_limit (limits_of s) t))
+  same_without h =
+      let limits = rate_with 7 fs (new_limit (limits_of s) t) in
+      let price : Field = record { tag = 8; content = prices_of s ++ (new_price (prices_of s) t ∷ []) } in
+      ap (λ (b : Bool). plate_fields (content_of 1 fs) q (limits ++ pick b (price ∷ []) [])) h ∙ ap (plate_fields (content_of 1 fs) q) (append-nil limits)
 
   after_step : AfterStep s t
   after_step =
+      let no_limits = absent_none 7 fs in
+      let no_prices = absent_none 8 fs in
       record {
         walked = walked;
-        accepted = plate_accepted (content_of 1 fs) q (has_tag 7 fs) more two_long q_accepted fit;
+        accepted = plate_accepted grown;
         plate = ap (λ (w : Walk). plate_in w.fields) walked;
         revision = ap (λ (w : Walk). content_of 1 w.fields) walked;
-        limited = ap (λ (w : Walk). has_tag 7 w.fields) walked ∙ has_limits (content_of 1 fs) q (has_tag 7 fs) more;
-        old_limits = old_limits;
-        new-limit = new-limit;
+        limited = ap (λ (w : Walk). has_tag 7 w.fields) walked ∙ (has_limits (content_of 1 fs) q (has_tag 7 fs) (has_tag 8 fs) more_limits more_prices).0;
+        old_limits = λ i l. ap (λ (c : List ℕ). get_or c i 255) limits_now ∙ rate_stays 255 (limits_of s) t (strips p) (has_tag 7 fs) (limits_each s none) no_limits i l;
+        new-limit = ap (λ (c : List ℕ). get_or c (strips p) 255) limits_now ∙ rate_comes 255 (limits_of s) t (strips p) (has_tag 7 fs) (limits_each s none) no_limits;
+        priced = ap (λ (w : Walk). has_tag 8 w.fields) walked ∙ (has_prices (content_of 1 fs) q (has_tag 7 fs) (has_tag 8 fs) more_limits more_prices).0;
+        old_prices = λ i l. ap (λ (c : List ℕ). get_or c i 1) prices_now ∙ rate_stays 1 (prices_of s) t (strips p) (has_tag 8 fs) (prices_each s none) no_prices i l;
+        new-price = ap (λ (c : List ℕ). get_or c (strips p) 1) prices_now ∙ rate_comes 1 (prices_of s) t (strips p) (has_tag 8 fs) (prices_each s none) no_prices;
+        unpriced = same_without;
         longest = longest;
       }
 

@@ -11,6 +11,7 @@ pub mod Verdicts
 pub mod Demands
 pub mod HeldLists
 pub mod FileRows
+pub mod Sums
 pub mod ListingText
 pub mod ListingRows
 pub mod ListingShort
@@ -25,6 +26,8 @@ pub mod P1
 pub mod Calls
 pub mod Loops
 pub mod Joints
+pub mod FourFields
+pub mod Prices
 pub mod Limits
 pub mod Journal
 pub mod PassedOver

@@ -1,47 +1,40 @@
--- Limits of bends over lists: 24 is given exactly where no shape keeps them, and without field 07 the walk, and so every promise, is that of before. Assumes nothing.
-use mathlib.Core.Path.{◌≡◌, refl, sym, ap, subst, ◌∙◌}
+-- Limits of bends over lists: 24 is given exactly where no shape keeps them, and without fields 07 and 08 the walk, and so every promise, is that of before. Assumes nothing.
+use mathlib.Core.Path.{◌≡◌, refl, sym, ap, ap₂, subst, subst₂, ◌∙◌}
 use mathlib.Core.Bool.{Bool, true, false, ◌||◌, not}
 use mathlib.Core.List.{List, [], ◌∷◌}
 use mathlib.Core.Logic.{◌↔◌}
 use Prim.Native.Nat.{ℕ, zero, suc, ◌+◌, ◌*◌, ◌≤◌, ◌<◌}
 use native.Mathlib.Omega.{arith}
-use borrow.Author.Tests.{eqb-true, leb-true, not-false}
+use borrow.Author.Tests.{leb-true}
 use lib.Dec.{eqb, ltb, leb}
 use lib.ListN.{length}
-use Rattle.finite.proofs.Tests.{and_left, or_second, first_none, first_last, when_none}
+use Rattle.finite.proofs.Tests.{and_left, first_last}
 use Rattle.fields.proofs.Laid.{absent_none}
-use Rattle.fields.proofs.SixTags.{no_field, six_tags}
+use Rattle.fields.proofs.Comes.{no_field}
+use Rattle.fields.proofs.Earlier.{six_tags, unpriced_walked}
 use Rattle.shapes.proofs.Accepted.{ordered}
 use Rattle.shapes.proofs.Words.{rights_long}
 use Rattle.shapes.proofs.Meets.{meets_facts}
 use Rattle.shapes.proofs.Tamassia.{two_to_a_strip}
 use Rattle.shapes.proofs.Strips.{free_within}
-use Rattle.shapes.proofs.Unpriced.{each_strip, free_best, best_free}
+use Rattle.shapes.proofs.Unpriced.{each_strip, by_within, free_by, by_free}
 use Rattle.shapes.proofs.Tried.{loop_best}
 use Rattle.plates.specs.Plates.{Plate, pick_t, first_of, when, strips, plate_fault}
-use Rattle.plates.specs.Shapes.{Shape, bends, rights_of, total, pair_sums, all_within, all_free, shape_of}
-use Rattle.plates.specs.Files.{Walk, has_tag, walk_all, limits_fit, limits_fault, list_fault, plate_of, limits_of, file_bytes, shape_bytes}
-use Rattle.plates.specs.Claims.{Best, BestOf, SomeWithin, NoneWithin, HasBest}
+use Rattle.plates.specs.Shapes.{Shape, bends, rights_of, total, rates, pair_sums, all_within, all_free, BestBy, shape_of}
+use Rattle.plates.specs.Files.{Walk, has_tag, walk_all, list_fault, plate_of, limits_of, is_priced, file_bytes, shape_bytes}
+use Rattle.plates.specs.Claims.{BestOf, SomeWithin, NoneWithin, HasBest}
 use Rattle.plates.specs.Says.{over, file_long, rights_in, NoneKeeps, shape_fault, file_fault_by, check_fault, ShapeWith, ShapeSays, CheckWith, CheckSays}
 use Rattle.plates.specs.Listing.{refused_text, Gives, ListingWith, ListingSays}
 use Rattle.plates.specs.Answers.{Shaped, Verdict, Listed, shaped}
-use Rattle.plates.specs.Ordering.{SameBesides}
-use Rattle.plates.specs.Limits.{walk_fault, six_walk, comes_to, ShapeBy, ShapeFrom, CheckBy, CheckFrom, ListingBy, ListingFrom, AsUnlimited, limited_loop, OneLimit, Limits}
+use Rattle.plates.specs.Ordering.{SameBesides, comes_to}
+use Rattle.plates.specs.Limits.{walk_fault, earlier_walk, best_free, count_long, ShapeFrom, CheckFrom, ListingFrom, AsUnlimited, limited_loop, OneLimit, Limits}
 use Rattle.plates.proofs.Contents.{plate_by, copied_by}
-use Rattle.plates.proofs.Lists.{list_accepted, list_number, list_demands, best_some, free_some}
+use Rattle.plates.proofs.Lists.{list_accepted, limits_each, of_plate, list_number, list_demands, best_some, free_some}
+use Rattle.plates.proofs.FourFields.{shape_by, check_by, listing_by}
+use Rattle.plates.proofs.Prices as Priced
 use Rattle.plates.proofs.OneAnswer.{one_number, shape_only}
 use Rattle.plates.proofs.Shaping.{none_says}
 use Rattle.plates.proofs.Sound.{sound_within}
-
--- ---- an accepted list's limits
-list_limits : (b : List ℕ) → list_fault b ≡ 0 → limits_fit (walk_all false b).fields ≡ true
-list_limits b e =
-    let fs = (walk_all false b).fields in
-    let late = (first_none (plate_fault (plate_of b)) (limits_fault fs) (first_none (walk_all false b).number _ e).1).1 in
-    not-false (limits_fit fs) (when_none (not (limits_fit fs)) 22 late)
-
-pub one_each : (b : List ℕ) → list_fault b ≡ 0 → has_tag 7 (walk_all false b).fields ≡ true → length (limits_of b) ≡ strips (plate_of b)
-one_each b e h = eqb-true (length (limits_of b)) (strips (plate_of b)) (or_second (not (has_tag 7 (walk_all false b).fields)) _ (list_limits b e) (ap not h))
 
 -- ---- 24, told from the answer
 with_number : (f : ℕ) (s o o' : List ℕ) (r : Shaped) → ShapeWith f s o o' r → r.number ≡ f
@@ -49,7 +42,7 @@ with_number zero s o o' r h = h.0
 with_number (suc f) s o o' r h = h.0
 
 list_not_24 : (s : List ℕ) → list_fault s ≡ 24 → ⊥
-list_not_24 = list_number (λ n. n ≡ 24 → ⊥) (λ n l o e. omega arith) (λ e. omega arith) (λ e. omega arith)
+list_not_24 = list_number (λ n. n ≡ 24 → ⊥) (λ n l o e. omega arith) (λ e. omega arith) (λ e. omega arith) (λ e. omega arith)
 
 refused_none : (s : List ℕ) (short none : Bool) (f : ℕ) → list_fault s ≡ f → NoneKeeps none s → first_of f (first_of (when none 24) (when short 16)) ≡ 24 → (f ≡ 0) × NoneWithin s
 refused_none s short none (suc f) e h q = absurd (list_not_24 s (e ∙ q))
@@ -86,9 +79,6 @@ listed s o o' r e n (none, h, x) = go none (h e) (subst (λ (f : ℕ). ListingWi
     go false (u, m, k) x = absurd (n u m k)
 
 -- ---- where limits are none
-as_plate : (b : List ℕ) (u : Shape) → all_free (limits_of b) ≡ true → BestOf b u ↔ Best (plate_of b) u
-as_plate b u free = (free_best (limits_of b) free, best_free (limits_of b) free)
-
 -- the number of an accepted list that is not limited: 16 or none
 free_number : (b : List ℕ) → list_fault b ≡ 0 → all_free (limits_of b) ≡ true → (n : Bool) (o : List ℕ) → NoneKeeps n b → shape_fault n b o ≡ when (ltb (length o) (file_long b)) 16
 free_number b z free n o k =
@@ -101,16 +91,18 @@ module _ (s t : List ℕ) (e : list_fault s ≡ 0) (e' : list_fault t ≡ 0) (h 
   same_plate = sym (plate_by (walk_all false s).fields (walk_all false t).fields (h.content 2 (λ z. omega arith)) (h.content 3 (λ z. omega arith)) (h.content 4 (λ z. omega arith)) (h.content 5 (λ z. omega arith)))
 
   same_copied : (a x : List ℕ) → file_bytes (walk_all false t).fields a x ≡ file_bytes (walk_all false s).fields a x
-  same_copied a x = sym (copied_by (walk_all false s).fields (walk_all false t).fields (h.content 1 (λ z. omega arith)) a x)
+  same_copied a x = sym (copied_by (walk_all false s).fields (walk_all false t).fields (h.content 1 (λ z. omega arith)) (h.there 8 (λ z. omega arith)) (h.content 8 (λ z. omega arith)) a x)
 
   same_bytes : (a x : List ℕ) → shape_bytes (walk_all false t).fields (shape_of (plate_of t) a x) ≡ shape_bytes (walk_all false s).fields (shape_of (plate_of s) a x)
   same_bytes a x = ap (λ (p : Plate). shape_bytes (walk_all false t).fields (shape_of p a x)) same_plate ∙ same_copied a (rights_of (shape_of (plate_of s) a x).words)
 
   same_long : file_long t ≡ file_long s
-  same_long = ap (λ (p : Plate). 16 + 4 * strips p) same_plate
+  same_long = ap₂ (λ (p : Plate) (b : Bool). 16 + 4 * strips p + when b 7) same_plate (sym (h.there 8 (λ z. omega arith)))
 
   same_best : (a x : List ℕ) → BestOf t (shape_of (plate_of t) a x) → BestOf s (shape_of (plate_of s) a x)
-  same_best a x b = (as_plate s _ f).1 (subst (λ (p : Plate). Best p (shape_of p a x)) same_plate ((as_plate t _ g).0 b))
+  same_best a x b =
+      by_free (limits_of s) f
+      (subst₂ (λ (p : Plate) (ps : List ℕ). BestBy p (rates [] ps) (shape_of p a x)) same_plate (sym (h.content 8 (λ z. omega arith))) (free_by (limits_of t) g b))
 
   module _ (o o' : List ℕ) (q : Shaped) where
     with_other : (short : Bool) → ShapeWith (when short 16) t o o' q → ShapeWith (when short 16) s o o' q
@@ -132,16 +124,19 @@ module _ (s t : List ℕ) (e : list_fault s ≡ 0) (e' : list_fault t ≡ 0) (h 
 no_limits : (b : List ℕ) → has_tag 7 (walk_all false b).fields ≡ false → all_free (limits_of b) ≡ true
 no_limits b h = ap all_free (absent_none 7 (walk_all false b).fields h)
 
--- ---- lists whose walk comes to no field 07
-module _ (s : List ℕ) (c : comes_to true 7 s ≡ false) where
+-- ---- lists whose walk comes to no field 07 and to no field 08
+module _ (s : List ℕ) (c : comes_to true false 7 s ≡ false) (d : comes_to true false 8 s ≡ false) where
   abbrev w : Walk
   w = walk_all false s
 
-  same_walk : w ≡ six_walk true s
-  same_walk = six_tags.walked true s c
+  same_walk : w ≡ earlier_walk true false 6 s
+  same_walk = six_tags.walked s c d
 
   absent : has_tag 7 w.fields ≡ false
-  absent = no_field true (suc (length s)) [] s c refl
+  absent = no_field true false 7 (suc (length s)) [] s c refl
+
+  unpriced : is_priced s ≡ false
+  unpriced = Priced.none s d
 
   free : all_free (limits_of s) ≡ true
   free = no_limits s absent
@@ -149,10 +144,11 @@ module _ (s : List ℕ) (c : comes_to true 7 s ≡ false) where
   kept : NoneKeeps false s
   kept e = free_some s e free
 
-  -- 23 is not given
+  -- 23 and 38 are not given
   number : list_fault s ≡ walk_fault w
   number =
-      ap (λ (t : Bool). first_of w.number (first_of (plate_fault (plate_of s)) (when (not (not t || eqb (length (limits_of s)) (strips (plate_of s)))) 23))) absent
+      Priced.number s d
+      ∙ ap (λ (t : Bool). first_of w.number (first_of (plate_fault (plate_of s)) (when (not (not t || eqb (length (limits_of s)) (strips (plate_of s)))) 23))) absent
       ∙ ap (first_of w.number) (first_last (plate_fault (plate_of s)))
 
   -- nor 24
@@ -162,56 +158,44 @@ module _ (s : List ℕ) (c : comes_to true 7 s ≡ false) where
   abbrev check_number : List ℕ → ℕ
   check_number t = first_of (walk_fault w) (file_fault_by w.fields (walk_all true t) 0)
 
-  -- nor 25
-  file_number : (t : List ℕ) → check_fault s t ≡ check_number t
-  file_number t =
-      ap (λ (b : Bool). first_of (list_fault s) (file_fault_by w.fields (walk_all true t) (when (not b) 25))) (free_within (limits_of s) (pair_sums (rights_in t)) free)
-      ∙ ap (λ (n : ℕ). first_of n (file_fault_by w.fields (walk_all true t) 0)) number
+  -- nor 25, nor 39 of a file without a sum
+  file_number : (t : List ℕ) → has_tag 22 (walk_all true t).fields ≡ false → check_fault s t ≡ check_number t
+  file_number t none =
+      Priced.file_number s d t none
+      ∙ ap₂ (λ (n : ℕ) (b : Bool). first_of n (file_fault_by w.fields (walk_all true t) (when (not b) 25))) (sym (Priced.number s d) ∙ number) (free_within (limits_of s) (pair_sums (rights_in t)) free)
 
-  shape_by : (f : ℕ) (o o' : List ℕ) (r : Shaped) → ShapeWith f s o o' r ↔ ShapeBy f w.fields o o' r
-  shape_by zero o o' r = (
-    λ h. let (n, (a, x, best, counts, rest)) = h in (n, (a, x, (as_plate s _ free).0 best, counts, rest)),
-    λ h. let (n, (a, x, best, counts, rest)) = h in (n, (a, x, (as_plate s _ free).1 best, counts, rest)),
-  )
-  shape_by (suc f) o o' r = (λ h. h, λ h. h)
+  as_plate : (u : Shape) → BestOf s u ↔ best_free w.fields u
+  as_plate u = of_plate s unpriced u free
 
-  check_by : (f : ℕ) (t : List ℕ) (r : Verdict) → CheckWith f s t r ↔ CheckBy f w.fields t r
-  check_by zero t r = (
-    λ h. let (n, k, (a, x, best, counts, rest)) = h in (n, k, (a, x, (as_plate s _ free).0 best, counts, rest)),
-    λ h. let (n, k, (a, x, best, counts, rest)) = h in (n, k, (a, x, (as_plate s _ free).1 best, counts, rest)),
-  )
-  check_by (suc f) t r = (λ h. h, λ h. h)
-
-  listing_by : (f : ℕ) (o o' : List ℕ) (r : Listed) → ListingWith f s o o' r ↔ ListingBy f w.fields o o' r
-  listing_by zero o o' r = (
-    λ h. let (a, x, best, counts, rest) = h in (a, x, (as_plate s _ free).0 best, counts, rest),
-    λ h. let (a, x, best, counts, rest) = h in (a, x, (as_plate s _ free).1 best, counts, rest),
-  )
-  listing_by (suc f) o o' r = (λ h. h, λ h. h)
+  long_is : file_long s ≡ count_long w.fields
+  long_is = Priced.long_is s d
 
   module _ (o o' : List ℕ) where
     abbrev later : Bool → ℕ
     later none = first_of (when none 24) (when (ltb (length o) (file_long s)) 16)
 
     abbrev now : ℕ
-    now = first_of (walk_fault w) (later false)
+    now = first_of (walk_fault w) (when (ltb (length o) (count_long w.fields)) 16)
+
+    now_is : (none : Bool) → NoneKeeps none s → first_of (list_fault s) (later none) ≡ now
+    now_is none k = flagless none later k ∙ ap (λ (n : ℕ). first_of (walk_fault w) (when (ltb (length o) n) 16)) long_is
 
     written : (r : Shaped) → ShapeSays s o o' r ↔ ShapeFrom w o o' r
     written r = (
-      λ h. let (none, k, x) = h in (shape_by now o o' r).0 (subst (λ (f : ℕ). ShapeWith f s o o' r) (flagless none later k) x),
-      λ h. (false, kept, subst (λ (f : ℕ). ShapeWith f s o o' r) (sym (flagless false later kept)) ((shape_by now o o' r).1 h)),
+      λ h. let (none, k, x) = h in (shape_by s unpriced best_free as_plate now o o' r).0 (subst (λ (f : ℕ). ShapeWith f s o o' r) (now_is none k) x),
+      λ h. (false, kept, subst (λ (f : ℕ). ShapeWith f s o o' r) (sym (now_is false kept)) ((shape_by s unpriced best_free as_plate now o o' r).1 h)),
     )
 
     listing : (r : Listed) → ListingSays s o o' r ↔ ListingFrom w o o' r
     listing r = (
-      λ h. let (none, k, x) = h in (listing_by (walk_fault w) o o' r).0 (subst (λ (f : ℕ). ListingWith f s o o' r) (flagless none (λ b. when b 24) k ∙ first_last (walk_fault w)) x),
-      λ h. (false, kept, subst (λ (f : ℕ). ListingWith f s o o' r) (sym (flagless false (λ b. when b 24) kept ∙ first_last (walk_fault w))) ((listing_by (walk_fault w) o o' r).1 h)),
+      λ h. let (none, k, x) = h in (listing_by s unpriced best_free as_plate (walk_fault w) o o' r).0 (subst (λ (f : ℕ). ListingWith f s o o' r) (flagless none (λ b. when b 24) k ∙ first_last (walk_fault w)) x),
+      λ h. (false, kept, subst (λ (f : ℕ). ListingWith f s o o' r) (sym (flagless false (λ b. when b 24) kept ∙ first_last (walk_fault w))) ((listing_by s unpriced best_free as_plate (walk_fault w) o o' r).1 h)),
     )
 
-  checked : (t : List ℕ) (r : Verdict) → CheckSays s t r ↔ CheckFrom w t r
-  checked t r = (
-    λ h. (check_by (check_number t) t r).0 (subst (λ (f : ℕ). CheckWith f s t r) (file_number t) h),
-    λ h. subst (λ (f : ℕ). CheckWith f s t r) (sym (file_number t)) ((check_by (check_number t) t r).1 h),
+  checked : (t : List ℕ) (r : Verdict) → has_tag 22 (walk_all true t).fields ≡ false → CheckSays s t r ↔ CheckFrom w (walk_all true t) r
+  checked t r none = (
+    λ h. (check_by s unpriced best_free as_plate (check_number t) t r).0 (subst (λ (f : ℕ). CheckWith f s t r) (file_number t none) h),
+    λ h. subst (λ (f : ℕ). CheckWith f s t r) (sym (file_number t none)) ((check_by s unpriced best_free as_plate (check_number t) t r).1 h),
   )
 
   as_unlimited : AsUnlimited s
@@ -219,7 +203,7 @@ module _ (s : List ℕ) (c : comes_to true 7 s ≡ false) where
     walked = same_walk;
     number = number ∙ ap walk_fault same_walk;
     written = λ o o' r. subst (λ (v : Walk). ShapeSays s o o' r ↔ ShapeFrom v o o' r) same_walk (written o o' r);
-    checked = λ t r. subst (λ (v : Walk). CheckSays s t r ↔ CheckFrom v t r) same_walk (checked t r);
+    checked = λ t r none. subst₂ (λ (v u : Walk). CheckSays s t r ↔ CheckFrom v u r) same_walk (unpriced_walked true t none) (checked t r (no_field true true 22 (suc (length t)) [] t none refl));
     listed = λ o o' r. subst (λ (v : Walk). ListingSays s o o' r ↔ ListingFrom v o o' r) same_walk (listing o o' r);
   }
 
@@ -246,12 +230,12 @@ one_limit = record {
   accepted = (refl, refl);
   none = loop_none;
   refused = λ o o' r h. of_none (limited_loop 2) o o' r h refl loop_none;
-  best = record { meets_all = loop_best.meets_all; keeps_all = refl; fewest = λ u m k. loop_best.fewest u m; first = λ u m k. loop_best.first u m };
+  best = by_within (3 ∷ []) (record { meets_all = loop_best.meets_all; keeps_all = refl; fewest = λ u m k. loop_best.fewest u m; first = λ u m k. loop_best.first u m });
 }
 
 pub limits : Limits
 limits = record {
-  one_each = one_each;
+  one_each = limits_each;
   by_strip = λ b u e m. each_strip (plate_of b) u m (strips (plate_of b)) (two_to_a_strip (plate_of b) (ordered (plate_of b) (list_accepted b e))) (limits_of b);
   refused = refused;
   listed = listed;
@@ -260,7 +244,7 @@ limits = record {
   unlimited = as_unlimited;
   six_tags = six_tags;
   no_field = no_limits;
-  as_plate = as_plate;
+  as_plate = λ b u free unpriced. of_plate b unpriced u free;
   all-free = λ s t o o₁ o₂ r q e e' h f g. all-free s t e e' h f g o o₁ o₂ r q;
   one_limit = one_limit;
 }

@@ -10,25 +10,25 @@ use Rattle.finite.proofs.Tests.{first_same, first-of, when_of, fault-of}
 use Rattle.embedding.proofs.Loops as Plates
 use Rattle.shapes.proofs.Accepted.{faultless, ordered}
 use Rattle.shapes.proofs.Tried.{loop_best}
-use Rattle.shapes.proofs.Unpriced.{best_free}
+use Rattle.shapes.proofs.Unpriced.{best-by}
 use Rattle.plates.specs.Plates.{first_of, when, darts, faces, plate_fault}
 use Rattle.plates.specs.Shapes.{rights_of, angles_ok, posts_ok, faces_ok, total, pair_sums, all_within, all_free, shape_of}
-use Rattle.plates.specs.Files.{walk_all, content_of, limits_fault, list_fault, plate_of, limits_of, shape_bytes}
+use Rattle.plates.specs.Files.{walk_all, content_of, rates_fault, list_fault, plate_of, limits_of, is_priced, shape_bytes}
 use Rattle.plates.specs.Claims.{BestOf}
-use Rattle.plates.specs.Says.{over, word, angles_in, rights_in, file_long, shape_fault, file_fault, check_fault, ShapeWith, CheckWith}
+use Rattle.plates.specs.Says.{over, word, angles_in, rights_in, sum_true, file_long, shape_fault, file_fault, check_fault, ShapeWith, CheckWith}
 use Rattle.plates.specs.Listing.{ListingWith}
 use Rattle.plates.specs.Answers.{Shaped, shaped}
 use Rattle.plates.specs.Loops.{plate_fault_before, list_fault_before, ShapeSaysBefore, AsBefore, Kept, loop_list, OneLoop, ToItself}
-use Rattle.plates.proofs.Lists.{list_accepted, list_demands, file_number, list_number}
+use Rattle.plates.proofs.Lists.{of_plate, list_accepted, list_demands, file_number, list_number}
 use Rattle.plates.proofs.OneAnswer.{shape_only, written_only, check_only, listing_only}
 
 -- a list that is refused in its walk has that number either way
 same_number : (s : List ℕ) → (list_fault_before s ≡ 10 → ⊥) → list_fault s ≡ list_fault_before s
 same_number s n =
     let p = plate_of s in
-    let limits = limits_fault (walk_all false s).fields in
-    first_same (walk_all false s).number (first_of (plate_fault p) limits) (first_of (plate_fault_before p) limits)
-    (λ q. ap (λ (k : ℕ). first_of k limits) (Plates.same_fault p (λ t. n (ap₂ (λ (k m : ℕ). first_of k (first_of m limits)) q t))))
+    let rates = rates_fault (walk_all false s).fields in
+    first_same (walk_all false s).number (first_of (plate_fault p) rates) (first_of (plate_fault_before p) rates)
+    (λ q. ap (λ (k : ℕ). first_of k rates) (Plates.same_fault p (λ t. n (ap₂ (λ (k m : ℕ). first_of k (first_of m rates)) q t))))
 
 as_before : (s : List ℕ) → (list_fault_before s ≡ 10 → ⊥) → AsBefore s
 as_before s n =
@@ -57,14 +57,14 @@ module _ (s : List ℕ) (z : list_fault_before s ≡ 0) (a x : List ℕ) (best :
       by true = (o, shaped 16 0 0, (refl, refl, refl, refl))
       by false = (over b o, shaped 0 (length b) (total x), (refl, (a, x, best, counts, (refl, refl, refl))))
 
-kept : (s : List ℕ) → list_fault_before s ≡ 0 → all_free (limits_of s) ≡ true → Kept s
-kept s z free =
+kept : (s : List ℕ) → list_fault_before s ≡ 0 → all_free (limits_of s) ≡ true → is_priced s ≡ false → Kept s
+kept s z free unpriced =
     let other : list_fault_before s ≡ 10 → ⊥ = λ t. omega arith in
     let e : list_fault s ≡ 0 = same_number s other ∙ z in
     let (a, r, best, counts) = list_demands.third.some_best s e free in
     record {
       accepted = e;
-      one_best = (a, r, best, counts, λ u b. list_demands.third.one_best s u (shape_of (plate_of s) a r) e (best_free (limits_of s) free b) best);
+      one_best = (a, r, best, counts, λ u b. list_demands.third.one_best s u (shape_of (plate_of s) a r) e ((of_plate s unpriced u free).1 b) best);
       some_answer = some_answer s z a r best counts;
       answers = as_before s other;
     }
@@ -77,10 +77,10 @@ none : other 0
 none e = omega arith
 
 walk_never : (k : Bool) (s : List ℕ) → other (walk_all k s).number
-walk_never = file_number other (λ n l e. e) (λ e. omega arith) (λ e. omega arith)
+walk_never = file_number other (λ n l e. e) (λ e. omega arith) (λ e. omega arith) (λ e. omega arith)
 
 list_never : (s : List ℕ) → other (list_fault s)
-list_never = list_number other (λ n l e. e) (λ e. omega arith) (λ e. omega arith)
+list_never = list_number other (λ n l e. e) (λ e. omega arith) (λ e. omega arith) (λ e. omega arith)
 
 shape_never : (n : Bool) (s o : List ℕ) → other (shape_fault n s o)
 shape_never n s o = first-of other none (list_fault s) _ (list_never s) (fault-of other none n 24 (λ e. omega arith) (when_of other none (ltb (length o) (file_long s)) 16 (λ e. omega arith)))
@@ -99,14 +99,15 @@ file_never s t =
     (fault-of other none (not (posts_ok p.posts 0 p a)) 20 (λ e. omega arith)
     (fault-of other none (not (faces_ok p a ws (faces p))) 21 (λ e. omega arith)
     (fault-of other none (not (eqb (word (content_of 18 w.fields)) (total r))) 22 (λ e. omega arith)
-    (when_of other none (not (all_within (limits_of s) (pair_sums r))) 25 (λ e. omega arith))))))))
+    (fault-of other none (not (all_within (limits_of s) (pair_sums r))) 25 (λ e. omega arith)
+    (when_of other none (not (sum_true (walk_all false s).fields w.fields)) 39 (λ e. omega arith)))))))))
 
 check_never : (s t : List ℕ) → other (check_fault s t)
 check_never s t = first-of other none (list_fault s) (file_fault s t) (list_never s) (file_never s t)
 
 -- ---- one post, one strip: its plate is a row of the table
 one_loop : OneLoop
-one_loop = record { before = refl; accepted = refl; inner = (refl, refl); outer = (refl, refl); best = loop_best; written = λ o o' r l. written_only loop_list (1 ∷ 3 ∷ []) (3 ∷ 0 ∷ []) o o' r refl l (best_free [] refl loop_best) refl }
+one_loop = record { before = refl; accepted = refl; inner = (refl, refl); outer = (refl, refl); best = loop_best; written = λ o o' r l. written_only loop_list (1 ∷ 3 ∷ []) (3 ∷ 0 ∷ []) o o' r refl l (best-by loop_best) refl }
 
 pub to_itself : ToItself
 to_itself =

@@ -8,7 +8,7 @@ use lib.Dec.{ltb}
 use lib.ListN.{length}
 use Rattle.plates.specs.Plates.{pick_t, first_of, when}
 use Rattle.plates.specs.Shapes.{rights_of, total, same, shape_of}
-use Rattle.plates.specs.Files.{walk_all, content_of, list_fault, plate_of, limits_of, shape_bytes}
+use Rattle.plates.specs.Files.{walk_all, content_of, list_fault, plate_of, prices_of, rates_of, sum_of, shape_bytes}
 use Rattle.plates.specs.Claims.{BestOf, NoneWithin, SomeWithin}
 use Rattle.plates.specs.Says.{over, word, angles_in, rights_in, file_long, NoneKeeps, shape_fault, check_fault, ShapeWith, ShapeSays, CheckWith, CheckSays}
 use Rattle.plates.specs.Listing.{listing_text, refused_text, Gives, listing_fault, ListingWith, ListingSays}
@@ -29,7 +29,7 @@ one_number s n m f h k = go (list_fault s) n m h k
 shape_with : (f : ℕ) (s o o₁ o₂ : List ℕ) (r q : Shaped) → ShapeWith f s o o₁ r → ShapeWith f s o o₂ q → (o₁ ≡ o₂) × (r ≡ q)
 shape_with zero s o o₁ o₂ r q (n, (a, x, best, counts, (long, bends, out))) (m, (b, y, best', counts', (long', bends', out'))) =
     let p = plate_of s in
-    let (totals, angles, rights) = same_counts p (limits_of s) a x b y best counts best' counts' in
+    let (totals, angles, rights) = same_counts p (rates_of s) a x b y best counts best' counts' in
     let bytes = ap₂ (λ (c d : List ℕ). shape_bytes (walk_all false s).fields (shape_of p c d)) angles rights in
     let number : r.number ≡ q.number = n ∙ sym m in
     let size : r.long ≡ q.long = long ∙ ap length bytes ∙ sym long' in
@@ -61,10 +61,10 @@ written_only s a x o o' r e l best counts says =
 
 check_with : (f : ℕ) (s t : List ℕ) (r q : Verdict) → CheckWith f s t r → CheckWith f s t q → r ≡ q
 check_with zero s t r q (n, tot, (a, x, best, counts, (few, ours))) (m, tot', (b, y, best', counts', (few', ours'))) =
-    let (totals, angles, rights) = same_counts (plate_of s) (limits_of s) a x b y best counts best' counts' in
+    let (totals, angles, rights) = same_counts (plate_of s) (rates_of s) a x b y best counts best' counts' in
     let number : r.number ≡ q.number = n ∙ sym m in
     let sum : r.total ≡ q.total = tot ∙ sym tot' in
-    let fewest : r.fewest ≡ q.fewest = few ∙ totals ∙ sym few' in
+    let fewest : r.fewest ≡ q.fewest = few ∙ ap (sum_of (prices_of s)) rights ∙ sym few' in
     let own : r.ours ≡ q.ours = ours ∙ ap₂ (λ (c d : List ℕ). same c (angles_in t) && same d (rights_in t)) angles rights ∙ sym ours' in
     λ i. record { number = number i; total = sum i; fewest = fewest i; ours = own i }
 check_with (suc f) s t r q (n, tot, few, ours) (m, tot', few', ours') =
@@ -96,7 +96,7 @@ gives_only t u o o₁ o₂ r q e g h = go (ltb (length o) (length u)) (rw e at g
 listing_with : (f : ℕ) (s o o₁ o₂ : List ℕ) (r q : Listed) → ListingWith f s o o₁ r → ListingWith f s o o₂ q → (o₁ ≡ o₂) × (r ≡ q)
 listing_with zero s o o₁ o₂ r q (a, x, best, counts, g) (b, y, best', counts', h) =
     let v = word (content_of 1 (walk_all false s).fields) in
-    let (totals, angles, rights) = same_counts (plate_of s) (limits_of s) a x b y best counts best' counts' in
+    let (totals, angles, rights) = same_counts (plate_of s) (rates_of s) a x b y best counts best' counts' in
     gives_only (listing_text v a x) (listing_text v b y) o o₁ o₂ r q (ap₂ (listing_text v) angles rights) g h
 listing_with (suc f) s o o₁ o₂ r q g h = gives_only (refused_text (suc f)) (refused_text (suc f)) o o₁ o₂ r q refl g h
 

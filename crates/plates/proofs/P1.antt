@@ -5,7 +5,7 @@ use mathlib.Core.List.{List, [], ◌∷◌}
 use Prim.Native.Nat.{ℕ, ◌≤◌}
 use lib.ListN.{length}
 use Rattle.shapes.proofs.Tried.{table_best}
-use Rattle.shapes.proofs.Unpriced.{best_free}
+use Rattle.shapes.proofs.Unpriced.{best-by}
 use Rattle.plates.specs.Shapes.{meets, shape_of}
 use Rattle.plates.specs.Files.{walk_all, list_fault, plate_of, shape_bytes}
 use Rattle.plates.specs.Claims.{Best}
@@ -44,7 +44,7 @@ pub p1_best : Best (plate_of list) (shape_of (plate_of list) angles rights)
 p1_best = table_best.0 refl
 
 pub p1_written : (o o' : List ℕ) (r : Shaped) → 24 ≤ length o → ShapeSays list o o' r → (o' ≡ over file o) × (r ≡ shaped 0 24 2)
-p1_written o o' r l = written_only list angles rights o o' r refl l (best_free [] refl p1_best) refl
+p1_written o o' r l = written_only list angles rights o o' r refl l (best-by p1_best) refl
 
 -- P10: the empty list lacks its fields
 pub empty_refused : list_fault [] ≡ 6

@@ -1,25 +1,24 @@
--- The promises take of a list its number, its plate, its limits and its revision, and of a shape file its number, revision, total, angles and right bends,
+-- The promises take of a list its number, its plate, its limits, its prices and its revision, and of a shape file its number, revision, total, angles, right bends and priced sum,
 -- so a remark makes no difference to them. Assumes nothing.
-use mathlib.Core.Path.{◌≡◌, sym, ap, subst, ◌∙◌}
+use mathlib.Core.Path.{◌≡◌, sym, ap, ap₂, subst, subst₂, ◌∙◌}
 use mathlib.Core.Bool.{Bool, true, false, ◌&&◌, ◌||◌, not}
 use mathlib.Core.List.{List, [], ◌∷◌, ◌++◌}
-use Prim.Native.Nat.{ℕ, zero, suc}
+use Prim.Native.Nat.{ℕ, zero, suc, ◌+◌, ◌*◌}
 use native.Mathlib.Omega.{arith}
 use lib.Dec.{eqb, ltb}
 use lib.ListN.{length}
 use Rattle.fields.proofs.FrontField.{met_field}
 use Rattle.plates.specs.Answers.{Shaped, Verdict, Listed}
 use Rattle.plates.specs.Plates.{pick, pick_t, first_of, when, darts, strips, plate_fault}
-use Rattle.plates.specs.Shapes.{Shape, meets, rights_of, total, same, pair_sums, strip_bends, all_within, shape_of}
-use Rattle.plates.specs.Files.{Field, Walk, walk, content_of, walk_all, plate_in, list_fault, plate_of, limits_of, file_bytes, shape_bytes}
-use Rattle.plates.specs.Claims.{BestWithin}
-use Rattle.plates.specs.Says.{over, word, file_long_in, file_fault_by, check_fault, shape_fault, NoneKeeps, BestBytes, ShapeWith, ShapeSays, CheckWith, CheckSays, angles_in, rights_in}
+use Rattle.plates.specs.Shapes.{Shape, meets, rights_of, total, same, rates, prices_ok, pair_sums, strip_bends, all_within, BestBy, shape_of}
+use Rattle.plates.specs.Files.{Field, Walk, walk, has_tag, content_of, walk_all, four, plate_in, list_fault, plate_of, limits_of, prices_of, sum_of, count_bytes, sum_field}
+use Rattle.plates.specs.Says.{over, word, file_fault_by, check_fault, shape_fault, NoneKeeps, BestBytes, ShapeWith, ShapeSays, CheckWith, CheckSays, angles_in, rights_in}
 use Rattle.plates.specs.Listing.{listing_text, Gives, listing_fault, ListingWith, ListingSays}
 use Rattle.plates.specs.Grammar.{entries_in}
 use Rattle.plates.specs.Lines.{face_text, words_by, angles_by, both_ways}
 use Rattle.plates.specs.Texts.{file_text, write_fault, WriteWith, WriteSays, words_read, placed_fault, bytes_read, read_fault, ReadWith, ReadSays}
 use Rattle.plates.specs.Ordering.{bytes_in}
-use Rattle.plates.specs.Journal.{Step, step_fault, stepped, new_limit, plate_fields, list_after, edit_fault, EditWith, EditSays}
+use Rattle.plates.specs.Journal.{Step, step_fault, stepped, new_limit, new_price, plate_fields, list_after, edit_fault, EditWith, EditSays}
 use Rattle.plates.specs.Remarks.{OnlyRemark, SameAnswers, SameVerdicts}
 
 turned : {k : Bool} {s t : List ℕ} → OnlyRemark k s t → OnlyRemark k t s
@@ -28,7 +27,7 @@ turned h = record { number = sym h.number; besides = record { there = λ u n. sy
 -- ---- lists
 -- the fields whose contents the promises take: what they say of these they say of all, by computation
 abbrev core : List Field → List Field
-core fs = met_field 1 (content_of 1 fs) ∷ (met_field 2 (content_of 2 fs) ∷ (met_field 3 (content_of 3 fs) ∷ (met_field 4 (content_of 4 fs) ∷ (met_field 5 (content_of 5 fs) ∷ (met_field 7 (content_of 7 fs) ∷ [])))))
+core fs = met_field 1 (content_of 1 fs) ∷ (met_field 2 (content_of 2 fs) ∷ (met_field 3 (content_of 3 fs) ∷ (met_field 4 (content_of 4 fs) ∷ (met_field 5 (content_of 5 fs) ∷ (met_field 7 (content_of 7 fs) ∷ (met_field 8 (content_of 8 fs) ∷ []))))))
 
 module _ (s t : List ℕ) (h : OnlyRemark false s t) where
   abbrev fs : List Field
@@ -48,12 +47,21 @@ module _ (s t : List ℕ) (h : OnlyRemark false s t) where
       let c4 = content 4 (λ z. omega arith) in
       let c5 = content 5 (λ z. omega arith) in
       let c7 = content 7 (λ z. omega arith) in
-      λ i. met_field 1 (c1 i) ∷ (met_field 2 (c2 i) ∷ (met_field 3 (c3 i) ∷ (met_field 4 (c4 i) ∷ (met_field 5 (c5 i) ∷ (met_field 7 (c7 i) ∷ [])))))
+      let c8 = content 8 (λ z. omega arith) in
+      λ i. met_field 1 (c1 i) ∷ (met_field 2 (c2 i) ∷ (met_field 3 (c3 i) ∷ (met_field 4 (c4 i) ∷ (met_field 5 (c5 i) ∷ (met_field 7 (c7 i) ∷ (met_field 8 (c8 i) ∷ []))))))
+
+  -- whether there are limits and prices
+  limited : has_tag 7 fs ≡ has_tag 7 gs
+  limited = h.besides.there 7 (λ z. omega arith)
+
+  priced : has_tag 8 fs ≡ has_tag 8 gs
+  priced = h.besides.there 8 (λ z. omega arith)
 
   number_same : list_fault s ≡ list_fault t
   number_same =
-      let limited = h.besides.there 7 (λ z. omega arith) in
-      λ i. first_of (h.number i) (first_of (plate_fault (plate_in (same_core i))) (when (not (not (limited i) || eqb (length (content_of 7 (same_core i))) (strips (plate_in (same_core i))))) 23))
+      λ i. first_of (h.number i) (first_of (plate_fault (plate_in (same_core i)))
+      (first_of (when (not (not (limited i) || eqb (length (content_of 7 (same_core i))) (strips (plate_in (same_core i))))) 23)
+      (when (not (not (priced i) || (eqb (length (content_of 8 (same_core i))) (strips (plate_in (same_core i))) && prices_ok (content_of 8 (same_core i))))) 38)))
 
   -- whether no shape keeps the limits
   abbrev Keeps : Bool → List Field → Type 0
@@ -64,11 +72,16 @@ module _ (s t : List ℕ) (h : OnlyRemark false s t) where
   keeps_to none k z = subst (Keeps none) same_core (k (number_same ∙ z))
 
   -- the best shape and its file
-  abbrev BestIn : (List ℕ → List ℕ → List ℕ → Type 0) → List Field → Type 0
-  BestIn f fs = (a : List ℕ) × (r : List ℕ) × BestWithin (plate_in fs) (content_of 7 fs) (shape_of (plate_in fs) a r) × (rights_of (shape_of (plate_in fs) a r).words ≡ r) × f a r (shape_bytes fs (shape_of (plate_in fs) a r))
+  abbrev bytes_with : Bool → List Field → List ℕ → List ℕ → List ℕ
+  bytes_with b fs a r = count_bytes fs a r ++ sum_field b (content_of 8 fs) r
+
+  abbrev BestIn : (List ℕ → List ℕ → List ℕ → Type 0) → Bool → List Field → Type 0
+  BestIn f b fs =
+      (a : List ℕ) × (r : List ℕ) × BestBy (plate_in fs) (rates (content_of 7 fs) (content_of 8 fs)) (shape_of (plate_in fs) a r) × (rights_of (shape_of (plate_in fs) a r).words ≡ r)
+      × f a r (bytes_with b fs a (rights_of (shape_of (plate_in fs) a r).words))
 
   best_to : (f : List ℕ → List ℕ → List ℕ → Type 0) → BestBytes s f → BestBytes t f
-  best_to f = subst (BestIn f) same_core
+  best_to f = subst₂ (BestIn f) priced same_core
 
   module _ (o o' : List ℕ) where
     shape_with : (n : ℕ) (r : Shaped) → ShapeWith n s o o' r → ShapeWith n t o o' r
@@ -79,11 +92,11 @@ module _ (s t : List ℕ) (h : OnlyRemark false s t) where
     shape_to r (none, k, x) = (
       none,
       keeps_to none k,
-      shape_with (shape_fault none t o) r (subst (λ (n : ℕ). ShapeWith n s o o' r) (λ i. first_of (number_same i) (first_of (when none 24) (when (ltb (length o) (file_long_in (same_core i))) 16))) x),
+      shape_with (shape_fault none t o) r (subst (λ (n : ℕ). ShapeWith n s o o' r) (λ i. first_of (number_same i) (first_of (when none 24) (when (ltb (length o) (16 + 4 * strips (plate_in (same_core i)) + when (priced i) 7)) 16))) x),
     )
 
     listing_with : (n : ℕ) (w : Listed) → ListingWith n s o o' w → ListingWith n t o o' w
-    listing_with zero w x = subst (λ (hs : List Field). BestIn (λ a x b. Gives (listing_text (word (content_of 1 hs)) a x) o o' w) hs) same_core x
+    listing_with zero w x = subst₂ (λ (b : Bool) (hs : List Field). BestIn (λ a x b. Gives (listing_text (word (content_of 1 hs)) a x) o o' w) b hs) priced same_core x
     listing_with (suc n) w x = x
 
     listing_to : (w : Listed) → ListingSays s o o' w → ListingSays t o o' w
@@ -92,10 +105,14 @@ module _ (s t : List ℕ) (h : OnlyRemark false s t) where
   -- against a shape file
   module _ (u : List ℕ) where
     check_same : check_fault s u ≡ check_fault t u
-    check_same = λ i. first_of (number_same i) (file_fault_by (same_core i) (walk_all true u) (when (not (all_within (content_of 7 (same_core i)) (pair_sums (rights_in u)))) 25))
+    check_same =
+        let us = (walk_all true u).fields in
+        λ i. first_of (number_same i) (file_fault_by (same_core i) (walk_all true u)
+        (first_of (when (not (all_within (content_of 7 (same_core i)) (pair_sums (rights_in u)))) 25)
+        (when (not (pick (priced i) (same (content_of 22 us) (four (sum_of (content_of 8 (same_core i)) (rights_in u)))) (not (has_tag 22 us)))) 39)))
 
     check_with : (n : ℕ) (v : Verdict) → CheckWith n s u v → CheckWith n t u v
-    check_with zero v (e, k, x) = (e, k, best_to (λ a x b. (v.fewest ≡ total x) × (v.ours ≡ (same a (angles_in u) && same x (rights_in u)))) x)
+    check_with zero v (e, k, x) = (e, k, subst₂ (λ (b : Bool) (hs : List Field). BestIn (λ a x b. (v.fewest ≡ sum_of (content_of 8 hs) x) × (v.ours ≡ (same a (angles_in u) && same x (rights_in u)))) b hs) priced same_core x)
     check_with (suc n) v x = x
 
     check_to : (v : Verdict) → CheckSays s u v → CheckSays t u v
@@ -115,7 +132,7 @@ module _ (s t : List ℕ) (h : OnlyRemark false s t) where
 
     -- against a text
     bytes_same : bytes_read s u ≡ bytes_read t u
-    bytes_same = ap (λ (hs : List Field). file_bytes hs (angles_by (darts (plate_in hs)) 0 (entries_in u)) (rights_of (words_by (darts (plate_in hs)) 0 (entries_in u)))) same_core
+    bytes_same = ap₂ (λ (b : Bool) (hs : List Field). bytes_with b hs (angles_by (darts (plate_in hs)) 0 (entries_in u)) (rights_of (words_by (darts (plate_in hs)) 0 (entries_in u)))) priced same_core
 
     words_same : words_read s u ≡ words_read t u
     words_same = ap (λ (hs : List Field). words_by (darts (plate_in hs)) 0 (entries_in u)) same_core
@@ -127,14 +144,15 @@ module _ (s t : List ℕ) (h : OnlyRemark false s t) where
     read_to : (o o' : List ℕ) (r : Shaped) → ReadSays s u o o' r → ReadSays t u o o' r
     read_to o o' r x =
         read_with (read_fault t u o) o o' r
-        (subst (λ (n : ℕ). ReadWith n s u o o' r) (λ i. first_of (first_of (number_same i) (placed_fault (plate_in (same_core i)) (content_of 7 (same_core i)) u)) (when (ltb (length o) (file_long_in (same_core i))) 16)) x)
+        (subst (λ (n : ℕ). ReadWith n s u o o' r) (λ i. first_of (first_of (number_same i) (placed_fault (plate_in (same_core i)) (content_of 7 (same_core i)) u)) (when (ltb (length o) (16 + 4 * strips (plate_in (same_core i)) + when (priced i) 7)) 16)) x)
 
   -- a step
   module _ (u : Step) where
     after_same : list_after s u ≡ list_after t u
     after_same =
-        let limited = h.besides.there 7 (λ z. omega arith) in
-        λ i. bytes_in (plate_fields (content_of 1 (same_core i)) (stepped (plate_in (same_core i)) u) (pick (limited i) (met_field 7 (content_of 7 (same_core i) ++ (new_limit (content_of 7 (same_core i)) u ∷ [])) ∷ []) []))
+        λ i. bytes_in (plate_fields (content_of 1 (same_core i)) (stepped (plate_in (same_core i)) u)
+        (pick (limited i) (met_field 7 (content_of 7 (same_core i) ++ (new_limit (content_of 7 (same_core i)) u ∷ [])) ∷ []) []
+        ++ pick (priced i) (met_field 8 (content_of 8 (same_core i) ++ (new_price (content_of 8 (same_core i)) u ∷ [])) ∷ []) []))
 
     edit_with : (n : ℕ) (o o' : List ℕ) (w : Listed) → EditWith n s u o o' w → EditWith n t u o o' w
     edit_with zero o o' w x = subst (λ (b : List ℕ). Gives b o o' w) after_same x
@@ -159,7 +177,7 @@ lists s t h = record {
 abbrev shape_core : Walk → Walk
 shape_core w =
     let fs = w.fields in
-    walk w.number (met_field 17 (content_of 17 fs) ∷ (met_field 18 (content_of 18 fs) ∷ (met_field 19 (content_of 19 fs) ∷ (met_field 20 (content_of 20 fs) ∷ []))))
+    walk w.number (met_field 17 (content_of 17 fs) ∷ (met_field 18 (content_of 18 fs) ∷ (met_field 19 (content_of 19 fs) ∷ (met_field 20 (content_of 20 fs) ∷ (met_field 22 (content_of 22 fs) ∷ [])))))
 
 module _ (t u : List ℕ) (h : OnlyRemark true t u) (s : List ℕ) where
   abbrev ls : List Field
@@ -172,7 +190,8 @@ module _ (t u : List ℕ) (h : OnlyRemark true t u) (s : List ℕ) where
       let c18 = c 18 (λ z. omega arith) in
       let c19 = c 19 (λ z. omega arith) in
       let c20 = c 20 (λ z. omega arith) in
-      λ i. walk (h.number i) (met_field 17 (c17 i) ∷ (met_field 18 (c18 i) ∷ (met_field 19 (c19 i) ∷ (met_field 20 (c20 i) ∷ []))))
+      let c22 = c 22 (λ z. omega arith) in
+      λ i. walk (h.number i) (met_field 17 (c17 i) ∷ (met_field 18 (c18 i) ∷ (met_field 19 (c19 i) ∷ (met_field 20 (c20 i) ∷ (met_field 22 (c22 i) ∷ [])))))
 
   abbrev angles : Walk → List ℕ
   angles w = content_of 19 w.fields
@@ -181,10 +200,13 @@ module _ (t u : List ℕ) (h : OnlyRemark true t u) (s : List ℕ) where
   rights w = content_of 20 w.fields
 
   verdict_same : check_fault s t ≡ check_fault s u
-  verdict_same = ap (λ (w : Walk). first_of (list_fault s) (file_fault_by ls w (when (not (all_within (limits_of s) (pair_sums (rights w)))) 25))) same_walk
+  verdict_same =
+      ap₂ (λ (b : Bool) (w : Walk). first_of (list_fault s) (file_fault_by ls w
+      (first_of (when (not (all_within (limits_of s) (pair_sums (rights w)))) 25) (when (not (pick (has_tag 8 ls) (same (content_of 22 w.fields) (four (sum_of (prices_of s) (rights w)))) (not b))) 39))))
+      (h.besides.there 22 (λ z. omega arith)) same_walk
 
   verdict_with : (n : ℕ) (v : Verdict) → CheckWith n s t v → CheckWith n s u v
-  verdict_with zero v x = subst (λ (w : Walk). (v.number ≡ 0) × (v.total ≡ total (rights w)) × BestBytes s (λ a x b. (v.fewest ≡ total x) × (v.ours ≡ (same a (angles w) && same x (rights w))))) same_walk x
+  verdict_with zero v x = subst (λ (w : Walk). (v.number ≡ 0) × (v.total ≡ total (rights w)) × BestBytes s (λ a x b. (v.fewest ≡ sum_of (prices_of s) x) × (v.ours ≡ (same a (angles w) && same x (rights w))))) same_walk x
   verdict_with (suc n) v x = x
 
   verdict_to : (v : Verdict) → CheckSays s t v → CheckSays s u v

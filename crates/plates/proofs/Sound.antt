@@ -1,4 +1,4 @@
--- The check finds no fault exactly where the conditions hold and the limits are kept: its tests, one by one, are those of `meets`, and that of the limits. Assumes nothing.
+-- The check finds no fault exactly where the conditions hold and the limits are kept: its tests, one by one, are those of `meets`, and those of the limits and of the priced sum. Assumes nothing.
 use mathlib.Core.Path.{◌≡◌, sym, ap, ◌∙◌}
 use mathlib.Core.Bool.{Bool, true, false, ◌&&◌, not}
 use mathlib.Core.List.{List}
@@ -17,7 +17,7 @@ use Rattle.plates.specs.Plates.{Plate, first_of, when, darts, strips, faces}
 use Rattle.plates.specs.Shapes.{Shape, meets, angles_ok, posts_ok, faces_ok, bends, total, rights_of, pair_sums, strip_bends, all_within, shape_of}
 use Rattle.plates.specs.Files.{Field, content_of, walk_all, list_fault, plate_of, limits_of}
 use Rattle.plates.specs.Claims.{SomeWithin}
-use Rattle.plates.specs.Says.{word, angles_in, rights_in, file_fault, check_fault, SoundExactly}
+use Rattle.plates.specs.Says.{word, angles_in, rights_in, sum_true, file_fault, check_fault, SoundExactly}
 use Rattle.plates.proofs.Lists.{list_accepted}
 
 -- a test that a refusal asks, passed
@@ -30,8 +30,8 @@ none_ok t n e = not-false t (when_none (not t) n e)
 firsts_none : (a b : ℕ) → a ≡ 0 → b ≡ 0 → first_of a b ≡ 0
 firsts_none a b e h = rw e h
 
--- the eight tests of a file's angles and right bends, its revision, its total and the limits
-pub record Passes (p : Plate) (ls a r : List ℕ) (own theirs said : ℕ) : Type 0 where
+-- the nine tests of a file's angles and right bends, its revision, its total, the limits and the priced sum
+pub record Passes (p : Plate) (ls a r : List ℕ) (own theirs said : ℕ) (sum : Bool) : Type 0 where
   pub angles_long : length a ≡ darts p
   pub rights_long : length r ≡ darts p
   pub revision : own ≡ theirs
@@ -40,8 +40,9 @@ pub record Passes (p : Plate) (ls a r : List ℕ) (own theirs said : ℕ) : Type
   pub faces-ok : faces_ok p a (shape_of p a r).words (faces p) ≡ true
   pub total_said : said ≡ total r
   pub limits_kept : all_within ls (pair_sums r) ≡ true
+  pub sum-true : sum ≡ true
 
-module _ (p : Plate) (ls a r : List ℕ) (own theirs said : ℕ) where
+module _ (p : Plate) (ls a r : List ℕ) (own theirs said : ℕ) (sum : Bool) where
   abbrev long : Bool
   long = eqb (length a) (darts p) && eqb (length r) (darts p)
 
@@ -49,7 +50,7 @@ module _ (p : Plate) (ls a r : List ℕ) (own theirs said : ℕ) where
   ws = (shape_of p a r).words
 
   abbrev from_22 : ℕ
-  from_22 = first_of (when (not (eqb said (total r))) 22) (when (not (all_within ls (pair_sums r))) 25)
+  from_22 = first_of (when (not (eqb said (total r))) 22) (first_of (when (not (all_within ls (pair_sums r))) 25) (when (not sum) 39))
 
   abbrev from_21 : ℕ
   from_21 = first_of (when (not (faces_ok p a ws (faces p))) 21) from_22
@@ -60,14 +61,15 @@ module _ (p : Plate) (ls a r : List ℕ) (own theirs said : ℕ) where
   abbrev from_17 : ℕ
   from_17 = first_of (when (not long) 17) (first_of (when (not (eqb own theirs)) 18) from_19)
 
-  none_passes : from_17 ≡ 0 → Passes p ls a r own theirs said
+  none_passes : from_17 ≡ 0 → Passes p ls a r own theirs said sum
   none_passes e =
       let (e17, f17) = first_none (when (not long) 17) _ e in
       let (e18, f18) = first_none (when (not (eqb own theirs)) 18) _ f17 in
       let (e19, f19) = first_none (when (not (angles_ok a)) 19) _ f18 in
       let (e20, f20) = first_none (when (not (posts_ok p.posts 0 p a)) 20) _ f19 in
       let (e21, f21) = first_none (when (not (faces_ok p a ws (faces p))) 21) _ f20 in
-      let (e22, e25) = first_none (when (not (eqb said (total r))) 22) _ f21 in
+      let (e22, f22) = first_none (when (not (eqb said (total r))) 22) _ f21 in
+      let (e25, e39) = first_none (when (not (all_within ls (pair_sums r))) 25) _ f22 in
       let both = none_ok long 16 e17 in
       record {
         angles_long = eqb-true (length a) (darts p) (and_left (eqb (length a) (darts p)) (eqb (length r) (darts p)) both);
@@ -78,9 +80,10 @@ module _ (p : Plate) (ls a r : List ℕ) (own theirs said : ℕ) where
         faces-ok = none_ok (faces_ok p a ws (faces p)) 20 e21;
         total_said = eqb-true said (total r) (none_ok (eqb said (total r)) 21 e22);
         limits_kept = none_ok (all_within ls (pair_sums r)) 24 e25;
+        sum-true = none_ok sum 38 e39;
       }
 
-  passes_none : Passes p ls a r own theirs said → from_17 ≡ 0
+  passes_none : Passes p ls a r own theirs said sum → from_17 ≡ 0
   passes_none h =
       let both = and_both (eqb (length a) (darts p)) (eqb (length r) (darts p)) (eq-eqb (length a) (darts p) h.angles_long) (eq-eqb (length r) (darts p) h.rights_long) in
       firsts_none (when (not long) 17) _ (ok_none long 17 both)
@@ -89,7 +92,8 @@ module _ (p : Plate) (ls a r : List ℕ) (own theirs said : ℕ) where
       (firsts_none (when (not (posts_ok p.posts 0 p a)) 20) _ (ok_none (posts_ok p.posts 0 p a) 20 h.posts-ok)
       (firsts_none (when (not (faces_ok p a ws (faces p))) 21) _ (ok_none (faces_ok p a ws (faces p)) 21 h.faces-ok)
       (firsts_none (when (not (eqb said (total r))) 22) _ (ok_none (eqb said (total r)) 22 (eq-eqb said (total r) h.total_said))
-      (ok_none (all_within ls (pair_sums r)) 25 h.limits_kept))))))
+      (firsts_none (when (not (all_within ls (pair_sums r))) 25) _ (ok_none (all_within ls (pair_sums r)) 25 h.limits_kept)
+      (ok_none sum 39 h.sum-true)))))))
 
 -- counts of the right length give words that are twinned and have these counts
 module _ (p : Plate) (o : Ordered p) (a r : List ℕ) (long : length r ≡ darts p) where
@@ -132,29 +136,33 @@ module _ (s t : List ℕ) (e : list_fault s ≡ 0) (w : (walk_all true t).number
   abbrev y : Shape
   y = shape_of q (angles_in t) (rights_in t)
 
+  abbrev sum_said : Bool
+  sum_said = sum_true (walk_all false s).fields us
+
   o : Ordered q
   o = ordered q (list_accepted s e)
 
-  later : check_fault s t ≡ from_17 q (limits_of s) (angles_in t) (rights_in t) own theirs said
+  later : check_fault s t ≡ from_17 q (limits_of s) (angles_in t) (rights_in t) own theirs said sum_said
   later = rw (e, w)
 
   abbrev Holds : Type 0
-  Holds = (length (rights_in t) ≡ darts q) × (meets q y ≡ true) × (theirs ≡ own) × (said ≡ bends y) × (all_within (limits_of s) (strip_bends y) ≡ true)
+  Holds = (length (rights_in t) ≡ darts q) × (meets q y ≡ true) × (theirs ≡ own) × (said ≡ bends y) × (all_within (limits_of s) (strip_bends y) ≡ true) × (sum_said ≡ true)
 
   to : check_fault s t ≡ 0 → Holds
   to z =
-      let h = none_passes q (limits_of s) (angles_in t) (rights_in t) own theirs said (sym later ∙ z) in (
+      let h = none_passes q (limits_of s) (angles_in t) (rights_in t) own theirs said sum_said (sym later ∙ z) in (
         h.rights_long,
         counted_meets q o (angles_in t) (rights_in t) h.rights_long h.angles_long h.angles-ok h.posts-ok h.faces-ok,
         sym h.revision,
         h.total_said ∙ sym (counted_bends q o (angles_in t) (rights_in t) h.rights_long),
         ap (λ (z : List ℕ). all_within (limits_of s) (pair_sums z)) (counted_rights q o (angles_in t) (rights_in t) h.rights_long) ∙ h.limits_kept,
+        h.sum-true,
       )
 
   from : Holds → check_fault s t ≡ 0
-  from (long, m, rev, tot, kept) =
+  from (long, m, rev, tot, kept, sum) =
       let f = meets_facts q y m in
-      later ∙ passes_none q (limits_of s) (angles_in t) (rights_in t) own theirs said (record {
+      later ∙ passes_none q (limits_of s) (angles_in t) (rights_in t) own theirs said sum_said (record {
         angles_long = f.angles_long;
         rights_long = long;
         revision = sym rev;
@@ -163,6 +171,7 @@ module _ (s t : List ℕ) (e : list_fault s ≡ 0) (w : (walk_all true t).number
         faces-ok = f.faces-ok;
         total_said = tot ∙ counted_bends q o (angles_in t) (rights_in t) long;
         limits_kept = ap (λ (z : List ℕ). all_within (limits_of s) (pair_sums z)) (sym (counted_rights q o (angles_in t) (rights_in t) long)) ∙ kept;
+        sum-true = sum;
       })
 
 pub sound_exactly : SoundExactly

@@ -1,29 +1,23 @@
--- The verdict on a written shape: its counts are the only best ones, so it is sound, fewest and ours. Assumes nothing.
-use mathlib.Core.Path.{◌≡◌, refl, sym, ap, subst, ◌∙◌}
+-- The verdict on a written shape: its counts are the only best ones, so it is sound, its sum the least, and ours. Assumes nothing.
+use mathlib.Core.Path.{◌≡◌, sym, ap, subst, ◌∙◌}
 use mathlib.Core.Bool.{true, false, ◌&&◌}
-use mathlib.Core.List.{List, [], ◌∷◌}
+use mathlib.Core.List.{List}
 use Prim.Native.Nat.{ℕ}
-use lib.Dec.{eqb}
-use borrow.Author.Tests.{eq-eqb}
 use Rattle.finite.proofs.Tests.{and_both}
-use Rattle.shapes.proofs.OneBest.{one_within}
+use Rattle.shapes.proofs.RatedOrder.{one_best_by}
 use Rattle.plates.specs.Plates.{Plate}
-use Rattle.plates.specs.Shapes.{Shape, rights_of, total, same, shape_of}
-use Rattle.plates.specs.Files.{walk_all, plate_of, limits_of, shape_bytes}
-use Rattle.plates.specs.Claims.{BestWithin}
+use Rattle.plates.specs.Shapes.{Shape, rights_of, total, same, Rates, BestBy, shape_of}
+use Rattle.plates.specs.Files.{walk_all, plate_of, prices_of, rates_of, sum_of, shape_bytes}
 use Rattle.plates.specs.Says.{angles_in, rights_in, CheckWith, WrittenVerdict}
+use Rattle.shapes.proofs.Order.{same_itself}
 use Rattle.plates.proofs.ReadsBack.{written_reads_back}
 
 -- counts of the same best shape
-pub same_counts : (p : Plate) (ls a r b q : List ℕ) → BestWithin p ls (shape_of p a r) → rights_of (shape_of p a r).words ≡ r → BestWithin p ls (shape_of p b q) → rights_of (shape_of p b q).words ≡ q → (total r ≡ total q) × (a ≡ b) × (r ≡ q)
-same_counts p ls a r b q x m y n =
-    let e : shape_of p a r ≡ shape_of p b q = one_within p ls (shape_of p a r) (shape_of p b q) x y in
+pub same_counts : (p : Plate) (rs : Rates) (a r b q : List ℕ) → BestBy p rs (shape_of p a r) → rights_of (shape_of p a r).words ≡ r → BestBy p rs (shape_of p b q) → rights_of (shape_of p b q).words ≡ q → (total r ≡ total q) × (a ≡ b) × (r ≡ q)
+same_counts p rs a r b q x m y n =
+    let e : shape_of p a r ≡ shape_of p b q = one_best_by p rs (shape_of p a r) (shape_of p b q) x y in
     let rights : r ≡ q = sym m ∙ ap (λ (u : Shape). rights_of u.words) e ∙ n in
     (ap total rights, ap (λ (u : Shape). u.angles) e, rights)
-
-same_itself : (xs : List ℕ) → same xs xs ≡ true
-same_itself [] = refl
-same_itself (x ∷ xs) = and_both (eqb x x) (same xs xs) (eq-eqb x x refl) (same_itself xs)
 
 both_same : (a b c d : List ℕ) → a ≡ b → c ≡ d → (same a b && same c d) ≡ true
 both_same a b c d p q = rw (p, q) (and_both (same b b) (same d d) (same_itself b) (same_itself d))
@@ -35,5 +29,5 @@ written_verdict s a r v e best counts says =
     let (number, tot, named) = subst (λ (n : ℕ). CheckWith n s f v) sound says in
     let (b, q, best', counts', facts) = named in
     let (fewest, ours) = facts in
-    let (totals, same-a, same-r) = same_counts (plate_of s) (limits_of s) b q a r best' counts' best counts in
-    (number, tot ∙ ap total rights, fewest ∙ totals, ours ∙ both_same b (angles_in f) q (rights_in f) (same-a ∙ sym angles) (same-r ∙ sym rights))
+    let (totals, same-a, same-r) = same_counts (plate_of s) (rates_of s) b q a r best' counts' best counts in
+    (number, tot ∙ ap total rights, fewest ∙ ap (sum_of (prices_of s)) same-r, ours ∙ both_same b (angles_in f) q (rights_in f) (same-a ∙ sym angles) (same-r ∙ sym rights))

@@ -12,7 +12,7 @@ pub record Shaped : Type 0 where
   pub long : ℕ
   pub bends : ℕ
 
--- a shape file checked; ours: angles and right bends are those that shaping writes
+-- a shape file checked; total: its bends; fewest: the least bends or, for a list with prices, the least sum; ours: angles and right bends are those that shaping writes
 pub record Verdict : Type 0 where
   pub number : ℕ
   pub total : ℕ

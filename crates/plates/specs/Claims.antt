@@ -1,13 +1,12 @@
--- The best shape of a list's plate within its limits: demand 3; the network.
+-- The best shape of a list's plate within its limits, by its prices: demand 3; the network.
 use Rattle.std.specs.Prelude.{◌≡◌, ◌↔◌, true, List, ℕ}
-use Rattle.plates.specs.Shapes.{Shape, meets, rights_of, strip_bends, all_within, all_free, shape_of}
-use Rattle.plates.specs.Files.{list_fault, plate_of, limits_of}
+use Rattle.plates.specs.Shapes.{Shape, meets, rights_of, strip_bends, all_within, all_free, BestBy, shape_of}
+use Rattle.plates.specs.Files.{list_fault, plate_of, limits_of, rates_of}
 pub use Rattle.shapes.specs.Claims.{Best, corners_of, goes_out, comes_in, balanced, all_balanced, units_ok, corners_from, posts_supply, is_flow, Network}
-pub use Rattle.shapes.specs.Rates.{BestWithin}
 
--- of the shapes that keep the list's limits the best one
+-- of the shapes that keep the list's limits the best one by its prices; without them, where each bend costs 1, the one with fewest bends (Prices.as_unpriced)
 abbrev pub BestOf : List ℕ → Shape → Type 0
-BestOf b s = BestWithin (plate_of b) (limits_of b) s
+BestOf b s = BestBy (plate_of b) (rates_of b) s
 
 -- some shape meets the conditions and keeps the limits; none does
 abbrev pub SomeWithin : List ℕ → Type 0

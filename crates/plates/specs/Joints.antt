@@ -1,8 +1,8 @@
 -- A straight post stays straight, over lists: the best shape in the words of the request, which shapes stay the best, and P6.
-use Rattle.std.specs.Prelude.{◌≡◌, true, List, [], ◌∷◌, ◌↔◌, ℕ, ◌≤◌, ◌<◌, length}
+use Rattle.std.specs.Prelude.{◌≡◌, true, false, List, [], ◌∷◌, ◌↔◌, ℕ, ◌≤◌, ◌<◌, length}
 use Rattle.plates.specs.Plates.{degree}
 use Rattle.plates.specs.Shapes.{Shape, meets, bends, cornered, shape_of}
-use Rattle.plates.specs.Files.{list_fault, plate_of, limits_of}
+use Rattle.plates.specs.Files.{list_fault, plate_of, limits_of, is_priced}
 use Rattle.plates.specs.Claims.{Best, BestOf}
 use Rattle.plates.specs.Says.{over, ShapeSays}
 use Rattle.plates.specs.Answers.{Shaped, shaped}
@@ -31,11 +31,12 @@ pub record OneJoint : Type 0 where
   -- what shaping answers, and writes to any memory of 24 bytes or more
   pub written : (o o' : List ℕ) (r : Shaped) → 24 ≤ length o → ShapeSays joint_list o o' r → (o' ≡ over joint_file o) × (r ≡ shaped 0 24 0)
 
+-- of lists without prices; of those with them Prices.in_parts tells
 pub record StraightPosts : Type 0 where
   -- the best shape has the fewest bends, then the fewest cornered posts, then it is the first by document 01's order
-  pub in_parts : (b : List ℕ) → list_fault b ≡ 0 → (s : Shape) → BestOf b s ↔ Straightest (plate_of b) (limits_of b) s
+  pub in_parts : (b : List ℕ) → list_fault b ≡ 0 → is_priced b ≡ false → (s : Shape) → BestOf b s ↔ Straightest (plate_of b) (limits_of b) s
   -- the best by document 01's order stays the best where no shape with as few bends has fewer cornered posts
-  pub kept : (b : List ℕ) → list_fault b ≡ 0 → (s : Shape) → PlainBest (plate_of b) (limits_of b) s → NoneStraighter (plate_of b) (limits_of b) s → BestOf b s
+  pub kept : (b : List ℕ) → list_fault b ≡ 0 → is_priced b ≡ false → (s : Shape) → PlainBest (plate_of b) (limits_of b) s → NoneStraighter (plate_of b) (limits_of b) s → BestOf b s
   -- on a plate without a post of exactly two strip ends nothing changes
-  pub no_joint : (b : List ℕ) → list_fault b ≡ 0 → ((v : ℕ) → v < (plate_of b).posts → degree (plate_of b) v ≡ 2 → ⊥) → (s : Shape) → PlainBest (plate_of b) (limits_of b) s ↔ BestOf b s
+  pub no_joint : (b : List ℕ) → list_fault b ≡ 0 → is_priced b ≡ false → ((v : ℕ) → v < (plate_of b).posts → degree (plate_of b) v ≡ 2 → ⊥) → (s : Shape) → PlainBest (plate_of b) (limits_of b) s ↔ BestOf b s
   pub one_joint : OneJoint

@@ -2,24 +2,32 @@
 use Rattle.std.specs.Prelude.{◌≡◌, false, List, [], ◌∷◌, ◌++◌, ℕ, zero, suc, ◌≤◌, ◌<◌, eqb, length, get_or}
 use Rattle.plates.specs.Answers.{Listed}
 use Rattle.plates.specs.Plates.{pick, first_of, Plate, strips}
-use Rattle.plates.specs.Files.{Field, has_tag, content_of, walk, walk_all, list_fault, plate_in, plate_of, limits_of}
+use Rattle.plates.specs.Files.{Field, has_tag, content_of, walk, walk_all, list_fault, plate_in, plate_of, limits_of, prices_of, is_priced}
 use Rattle.plates.specs.Listing.{Gives}
 use Rattle.plates.specs.Ordering.{bytes_in}
 use Rattle.plates.specs.Limits.{limit_at}
+use Rattle.plates.specs.Prices.{price_at}
 pub use Rattle.embedding.specs.Edits.{laid, put_before, rename, renamed, split, hang, join, SplitTable, HangTable, JoinTable, Turned, SameTable, no_post, no_strip, taken, full, no_face, split_fault, hang_fault, join_fault}
 pub use Rattle.embedding.specs.Journal.{step_fault, stepped, new_faces, StepTable, OuterStays, StepHolds, replayed, Editing}
 pub use Rattle.embedding.specs.declared.journal.Step.{Step}
 pub use Rattle.embedding.specs.declared.journal.Step.TheVariants.{Split, Hang, Join}
 
--- the limit of the strip that a step makes: a split gives that of its strip to both halves, any other strip has 255
-abbrev pub new_limit : List ℕ → Step → ℕ
-new_limit limits (Split s) = get_or limits s 255
-new_limit limits (Hang d) = 255
-new_limit limits (Join d e) = 255
+-- the limit or price of the strip that a step makes, given what a strip has of which a list says nothing: a split gives that of its strip to both halves
+abbrev pub new_rate : ℕ → List ℕ → Step → ℕ
+new_rate unsaid rates (Split s) = get_or rates s unsaid
+new_rate unsaid rates (Hang d) = unsaid
+new_rate unsaid rates (Join d e) = unsaid
 
--- the limits with one more behind them, where the list has any
-abbrev pub limits_with : List Field → ℕ → List Field
-limits_with fs n = pick (has_tag 7 fs) (record { tag = 7; content = content_of 7 fs ++ (n ∷ []) } ∷ []) []
+-- any other strip has no limit, and its bends cost 1
+abbrev pub new_limit : List ℕ → Step → ℕ
+new_limit = new_rate 255
+
+abbrev pub new_price : List ℕ → Step → ℕ
+new_price = new_rate 1
+
+-- the limits or the prices with one more behind them, where the list has any
+abbrev pub rate_with : ℕ → List Field → ℕ → List Field
+rate_with t fs n = pick (has_tag t fs) (record { tag = t; content = content_of t fs ++ (n ∷ []) } ∷ []) []
 
 -- the fields of a plate's list in tag order: the revision, the plate, then the rest
 abbrev pub plate_fields : List ℕ → Plate → List Field → List Field
@@ -30,12 +38,12 @@ plate_fields revision p rest =
     ∷ (record { tag = 4; content = p.order }
     ∷ (record { tag = 5; content = p.outer ∷ [] } ∷ rest))))
 
--- the list of a plate with one strip more than the list fs, with its revision, its limits and the limit n of that strip
-abbrev pub grown_fields : List Field → Plate → ℕ → List Field
-grown_fields fs p n = plate_fields (content_of 1 fs) p (limits_with fs n)
+-- the list of a plate with one strip more than the list fs, with its revision, its limits and prices and the limit n and the price m of that strip
+abbrev pub grown_fields : List Field → Plate → ℕ → ℕ → List Field
+grown_fields fs p n m = plate_fields (content_of 1 fs) p (rate_with 7 fs n ++ rate_with 8 fs m)
 
 abbrev pub fields_after : List Field → Step → List Field
-fields_after fs t = grown_fields fs (stepped (plate_in fs) t) (new_limit (content_of 7 fs) t)
+fields_after fs t = grown_fields fs (stepped (plate_in fs) t) (new_limit (content_of 7 fs) t) (new_price (content_of 8 fs) t)
 
 abbrev pub list_after : List ℕ → Step → List ℕ
 list_after s t = bytes_in (fields_after (walk_all false s).fields t)
@@ -65,7 +73,13 @@ pub record AfterStep (s : List ℕ) (t : Step) : Type 0 where
   pub limited : has_tag 7 (walk_all false (list_after s t)).fields ≡ has_tag 7 (walk_all false s).fields
   pub old_limits : (i : ℕ) → i < strips (plate_of s) → limit_at (list_after s t) i ≡ limit_at s i
   pub new-limit : limit_at (list_after s t) (strips (plate_of s)) ≡ new_limit (limits_of s) t
-  pub longest : length (list_after s t) ≤ 662
+  pub priced : is_priced (list_after s t) ≡ is_priced s
+  pub old_prices : (i : ℕ) → i < strips (plate_of s) → price_at (list_after s t) i ≡ price_at s i
+  pub new-price : price_at (list_after s t) (strips (plate_of s)) ≡ new_price (prices_of s) t
+  -- a list without prices becomes the list that it did before request E12
+  pub unpriced : is_priced s ≡ false → fields_after (walk_all false s).fields t
+      ≡ plate_fields (content_of 1 (walk_all false s).fields) (stepped (plate_of s) t) (rate_with 7 (walk_all false s).fields (new_limit (limits_of s) t))
+  pub longest : length (list_after s t) ≤ 793
 
 -- what request E11 asks
 pub record Journal : Type 0 where

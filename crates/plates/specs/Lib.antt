@@ -13,6 +13,7 @@ pub mod Ordering
 pub mod Loops
 pub mod Joints
 pub mod Limits
+pub mod Prices
 pub mod Text
 pub mod Grammar
 pub mod Lines

@@ -2,7 +2,7 @@
 use Rattle.std.specs.Prelude.{◌≡◌, Bool, true, false, List, [], ◌∷◌, ℕ, ◌+◌, ◌≤◌, ◌<◌, ltb, length}
 use Rattle.plates.specs.Plates.{first_of, when, darts, leaves, ends_at, degree_from, after, face_of}
 use Rattle.plates.specs.Shapes.{Shape, all_free, shape_of}
-use Rattle.plates.specs.Files.{walk_all, fault_from, list_fault, plate_of, limits_of}
+use Rattle.plates.specs.Files.{walk_all, fault_from, list_fault, plate_of, limits_of, is_priced}
 use Rattle.plates.specs.Claims.{Best}
 use Rattle.plates.specs.Says.{over, file_long, BestBytes, NoneKeeps, shape_fault, file_fault, check_fault, ShapeWith, ShapeSays, CheckWith, CheckSays}
 use Rattle.plates.specs.Listing.{ListingWith, ListingSays}
@@ -33,7 +33,7 @@ pub record AsBefore (s : List ℕ) : Type 0 where
   pub checked : (t : List ℕ) (r q : Verdict) → CheckWith (check_fault_before s t) s t r → CheckSays s t q → r ≡ q
   pub listed : (o o₁ o₂ : List ℕ) (r q : Listed) → ListingSaysBefore s o o₁ r → ListingSays s o o₂ q → (o₁ ≡ o₂) × (r ≡ q)
 
--- a list without limits accepted before: accepted, with one best shape (`Best` names no refusal), and the same answers and bytes
+-- a list without limits and prices accepted before: accepted, with one best shape (`Best` names no refusal), and the same answers and bytes
 pub record Kept (s : List ℕ) : Type 0 where
   pub accepted : list_fault s ≡ 0
   pub one_best : BestBytes s (λ a r b. (u : Shape) → Best (plate_of s) u → u ≡ shape_of (plate_of s) a r)
@@ -72,5 +72,5 @@ pub record ToItself : Type 0 where
   pub never_ten : (none : Bool) (s o t : List ℕ) → (list_fault s ≡ 10 → ⊥) × (shape_fault none s o ≡ 10 → ⊥) × (check_fault s t ≡ 10 → ⊥)
   -- every list, accepted or refused, unless with 10, is answered as before
   pub as_before : (s : List ℕ) → (list_fault_before s ≡ 10 → ⊥) → AsBefore s
-  -- lists accepted before keep their shapes; none of them had limits
-  pub kept : (s : List ℕ) → list_fault_before s ≡ 0 → all_free (limits_of s) ≡ true → Kept s
+  -- lists accepted before keep their shapes; none of them had limits or prices
+  pub kept : (s : List ℕ) → list_fault_before s ≡ 0 → all_free (limits_of s) ≡ true → is_priced s ≡ false → Kept s

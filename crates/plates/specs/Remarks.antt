@@ -1,9 +1,9 @@
 -- Remarks, fields 06 of plate lists and 15 of shape files, over the calls: they are read and passed over, and no shape file is written with one.
 use Rattle.std.specs.Prelude.{◌≡◌, true, false, List, [], ◌++◌, ◌↔◌, ℕ, ◌+◌, ◌*◌, length, take}
 use Rattle.plates.specs.Answers.{Shaped, Verdict, Listed}
-use Rattle.plates.specs.Plates.{pick, strips}
+use Rattle.plates.specs.Plates.{pick, when, strips}
 use Rattle.plates.specs.Shapes.{rights_of, shape_of}
-use Rattle.plates.specs.Files.{Field, has_tag, content_of, walk_all, old_walk, field, list_fault, plate_of, shape_bytes}
+use Rattle.plates.specs.Files.{Field, has_tag, content_of, walk_all, old_walk, field, list_fault, plate_of, is_priced, shape_bytes}
 use Rattle.plates.specs.Claims.{BestOf}
 use Rattle.plates.specs.Says.{all_bytes, check_fault, ShapeSays, CheckSays}
 use Rattle.plates.specs.Listing.{ListingSays}
@@ -29,13 +29,13 @@ pub record SameVerdicts (t u : List ℕ) : Type 0 where
   pub checked : (s : List ℕ) (v : Verdict) → CheckSays s t v ↔ CheckSays s u v
   pub to_text : (s o o' : List ℕ) (w : Listed) → WriteSays s t o o' w ↔ WriteSays s u o o' w
 
--- a file written for a list: it reads, has no remark, and its length is 16 + 4m
+-- a file written for a list: it reads, has no remark, and its length is 16 + 4m, with prices 7 more
 pub record NoRemark (s b : List ℕ) : Type 0 where
   pub reads : (walk_all true b).number ≡ 0
   pub no_remark : has_tag 21 (walk_all true b).fields ≡ false
-  pub long : length b ≡ 16 + 4 * strips (plate_of s)
+  pub long : length b ≡ 16 + 4 * strips (plate_of s) + when (is_priced s) 7
 
--- the field that our files ended with before request E9: the list's remark, where it has one
+-- the field that our files ended with before request E9, and before lists had prices: the list's remark, where it has one
 abbrev pub remark_copied : List Field → List ℕ
 remark_copied fs = pick (has_tag 6 fs) (field 21 (content_of 6 fs)) []
 
@@ -60,6 +60,6 @@ pub record Remarks : Type 0 where
   -- a file put in order keeps its own
   pub kept : (s : List ℕ) → let k = is_shape_file s in (old_walk k s).number ≡ 0 → field_of (remark_tag k) (walk_all k (ordered_bytes s)).fields ≡ field_of (remark_tag k) (old_walk k s).fields
   -- our older files; without a remark in the list they are those of today
-  pub older : (s a r : List ℕ) → list_fault s ≡ 0 → all_bytes s ≡ true → BestOf s (shape_of (plate_of s) a r) → rights_of (shape_of (plate_of s) a r).words ≡ r
+  pub older : (s a r : List ℕ) → list_fault s ≡ 0 → all_bytes s ≡ true → is_priced s ≡ false → BestOf s (shape_of (plate_of s) a r) → rights_of (shape_of (plate_of s) a r).words ≡ r
       → OlderFile s (shape_bytes (walk_all false s).fields (shape_of (plate_of s) a r))
   pub without : (s : List ℕ) → has_tag 6 (walk_all false s).fields ≡ false → remark_copied (walk_all false s).fields ≡ []

@@ -52,7 +52,7 @@ placed_fault p ls t =
 abbrev pub text_fault : List ℕ → List ℕ → ℕ
 text_fault s t = first_of (list_fault s) (placed_fault (plate_of s) (limits_of s) t)
 
--- the shape file that a text gives, with the list's revision
+-- the shape file that a text gives, with the list's revision and, where the list has prices, their sum for the text's bends
 abbrev pub bytes_read : List ℕ → List ℕ → List ℕ
 bytes_read s t = file_bytes (walk_all false s).fields (angles_read s t) (rights_of (words_read s t))
 
@@ -80,9 +80,18 @@ pub record WentBack (s t b : List ℕ) : Type 0 where
   pub rights : rights_in b ≡ rights_of (words_read s t)
   pub text : file_text s b ≡ t
 
--- the remark of a shape file as it stands at its end, or nothing
+-- the remark of a shape file and the priced sum behind it as they stand there, or nothing
 abbrev pub remark_in : List ℕ → List ℕ
 remark_in t = bytes_in (field_of 21 (walk_all true t).fields)
+
+abbrev pub sum_in : List ℕ → List ℕ
+sum_in t = bytes_in (field_of 22 (walk_all true t).fields)
+
+-- b is the file t without its remark; where t has none, it is t
+pub record ButRemark (b t : List ℕ) : Type 0 where
+  pub front : List ℕ
+  pub whole : front ++ (remark_in t ++ sum_in t) ≡ t
+  pub without : front ++ sum_in t ≡ b
 
 -- how long a text is at most
 pub record TextShort : Type 0 where
@@ -99,7 +108,7 @@ pub record RoundTrips : Type 0 where
   -- the length of a written file is the one that 16 asks for
   pub bytes_long : (s t : List ℕ) → text_fault s t ≡ 0 → length (bytes_read s t) ≡ file_long s
   -- of a sound file that bends no strip both ways every byte comes back but for its remark; without one, the whole file
-  pub byte_for_byte : (s t : List ℕ) → all_bytes s ≡ true → all_bytes t ≡ true → check_fault s t ≡ 0 → both_ways (rights_in t) ≡ false → bytes_read s (file_text s t) ++ remark_in t ≡ t
+  pub byte_for_byte : (s t : List ℕ) → all_bytes s ≡ true → all_bytes t ≡ true → check_fault s t ≡ 0 → both_ways (rights_in t) ≡ false → ButRemark (bytes_read s (file_text s t)) t
   -- our own files, with the list that they were written from: byte for byte
   pub ours : (s a r : List ℕ) → list_fault s ≡ 0 → all_bytes s ≡ true → BestOf s (shape_of (plate_of s) a r) → rights_of (shape_of (plate_of s) a r).words ≡ r
       → let b = shape_bytes (walk_all false s).fields (shape_of (plate_of s) a r) in
@@ -112,7 +121,7 @@ pub record Called : Type 0 where
       → let b = take r.long m' in (r.number ≡ 0) × (check_fault s b ≡ 0) × (angles_in b ≡ angles_in t) × (rights_in b ≡ rights_in t)
   -- byte for byte, but for the file's remark
   pub byte_for_byte : (s t o o' m m' : List ℕ) (w : Listed) (r : Shaped) → all_bytes s ≡ true → all_bytes t ≡ true → WriteSays s t o o' w → w.number ≡ 0 → file_long s ≤ length m → ReadSays s (take w.long o') m m' r
-      → take r.long m' ++ remark_in t ≡ t
+      → ButRemark (take r.long m') t
   -- back and to text
   pub back_and_to : (s t o o' m m' : List ℕ) (r : Shaped) (w : Listed) → ReadSays s t o o' r → r.number ≡ 0 → length t ≤ length m → WriteSays s (take r.long o') m m' w → (w.number ≡ 0) × (take w.long m' ≡ t)
   -- a shape that was written, to text and back

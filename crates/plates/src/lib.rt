@@ -1,10 +1,8 @@
 //! From plate list to the shape with fewest bends: shaping, checking, listing.
 #![tactic(auto)]
 
-ghost use Rattle.std.specs.Prelude.{[]};
-ghost use Rattle.shapes.specs.Rates.{rates};
 ghost use Rattle.shapes.specs.BestOf.{Answers};
-ghost use Rattle.plates.specs.Files.{plate_of, limits_of};
+ghost use Rattle.plates.specs.Files.{plate_of, rates_of};
 ghost use Rattle.plates.specs.Answers.{shaped_of, verdict_of, listed_of};
 ghost use Rattle.plates.specs.Says.{ShapeSays, CheckSays};
 ghost use Rattle.plates.specs.Listing.{ListingSays};
@@ -23,18 +21,14 @@ pub mod listing;
 pub mod reading;
 
 impl PlateList<'_> {
-    /// The best shape within the list's limits, if some shape keeps them. (`shapes::best` has no limits, and so always a shape.)
+    /// The best shape within the list's limits, by its prices, if some shape keeps them. (`shapes::best` has no limits, and so always a shape.)
+    #[tactic(auto, using(crate::proofs::Sums::held_fair))]
     pub fn best(&self) -> Option<BestShape>
-        ensures { Answers (plate_of self.now.bytes.now) (rates (limits_of self.now.bytes.now) []) result }
+        ensures { Answers (plate_of self.now.bytes.now) (rates_of self.now.bytes.now) result }
     {
         let limits = self.limits();
-        best_by(
-            self.plate,
-            StripRates {
-                limits,
-                prices: b"",
-            },
-        )
+        let prices = self.prices();
+        best_by(self.plate, StripRates { limits, prices })
     }
 }
 

@@ -1,9 +1,9 @@
 //! A plate list and a shape file for it, read: their fields, the plate and the counts.
-ghost use Rattle.std.specs.Prelude.{◌≡◌, List, false, true, IfOk};
+ghost use Rattle.std.specs.Prelude.{◌≡◌, List, false, true, IfOk, option_map};
 ghost use Rattle.refusals.specs.Numbers.{fault_of};
 ghost use Rattle.fields.specs.Says.{ListFieldsOf, word};
 ghost use Rattle.embedding.specs.Read.{meant};
-ghost use Rattle.plates.specs.Files.{Field, content_of, walk_all, list_fault, limits_fit, plate_of, limits_of};
+ghost use Rattle.plates.specs.Files.{Field, content_of, content_at, walk_all, list_fault, limits_fit, prices_fit, plate_of, limits_of, prices_of};
 ghost use Rattle.plates.specs.Says.{angles_in, rights_in};
 ghost use Rattle.plates.specs.Read.{shape_file_fault};
 
@@ -11,6 +11,7 @@ use embedding::{Plate, read_plate};
 use fields::{ListFields, ShapeFields, first, number, walk_list, walk_shape};
 use refusals::Refusal;
 use shapes::counts::Counts;
+use shapes::rates::prices_ok;
 
 /// An accepted plate list: its bytes, the contents of its fields and its plate.
 #[derive(Clone, Copy)]
@@ -30,10 +31,12 @@ pub struct ShapeFile<'a> {
     pub bytes: &'a [u8],
     pub total: &'a [u8],
     pub counts: Counts<'a>,
+    pub sum: Option<&'a [u8]>,
     pub ghost accepted: { shape_file_fault list.bytes.now bytes.now ≡ 0 },
     pub ghost total_said: { total.now ≡ content_of 18 (walk_all true bytes.now).fields },
     pub ghost angles: { counts.angles.now ≡ angles_in bytes.now },
     pub ghost rights: { counts.rights.now ≡ rights_in bytes.now },
+    pub ghost sum_said: { option_map (λ c. c.now) sum ≡ content_at 22 (walk_all true bytes.now).fields },
 }
 
 impl<'a> PlateList<'a> {
@@ -42,6 +45,13 @@ impl<'a> PlateList<'a> {
         ensures { result.now ≡ limits_of self.now.bytes.now }
     {
         self.fields.limits.unwrap_or(b"")
+    }
+
+    /// The prices of bends, one for each strip; none where the list has no prices.
+    pub fn prices(&self) -> &'a [u8]
+        ensures { result.now ≡ prices_of self.now.bytes.now }
+    {
+        self.fields.prices.unwrap_or(b"")
     }
 
     /// The revision.
@@ -53,12 +63,23 @@ impl<'a> PlateList<'a> {
 }
 
 // Are the limits of bends, where the list has them, one for each strip?
-#[tactic(auto, using(crate::proofs::HeldLists::some_fit, crate::proofs::HeldLists::none_fit))]
+#[tactic(auto, using(crate::proofs::HeldLists::limits_fit_some, crate::proofs::HeldLists::limits_fit_none))]
 fn limits_fit(fields: ListFields) -> bool
     ensures { (fs : List Field) → ListFieldsOf fs fields.entry → result ≡ limits_fit fs }
 {
     match fields.limits {
         Some(limits) => limits.len() == fields.ends.len() / 2,
+        None => true,
+    }
+}
+
+// Are the prices of bends, where the list has them, one for each strip, each 1 to 100?
+#[tactic(auto, using(crate::proofs::HeldLists::prices_fit_enough, crate::proofs::HeldLists::prices_fit_other, crate::proofs::HeldLists::prices_fit_none))]
+fn prices_fit(fields: ListFields) -> bool
+    ensures { (fs : List Field) → ListFieldsOf fs fields.entry → result ≡ prices_fit fs }
+{
+    match fields.prices {
+        Some(prices) => prices.len() == fields.ends.len() / 2 && prices_ok(prices),
         None => true,
     }
 }
@@ -78,6 +99,9 @@ pub fn read_list(bytes: &[u8]) -> Result<PlateList<'_>, Refusal>
     if !limits_fit(fields) {
         return Err(Refusal::LimitsLength);
     }
+    if !prices_fit(fields) {
+        return Err(Refusal::PricesWrong);
+    }
     Ok(PlateList {
         bytes,
         fields,
@@ -94,6 +118,7 @@ pub fn read_shape<'a>(list: PlateList<'a>, bytes: &'a [u8]) -> Result<ShapeFile<
         total,
         angles,
         rights,
+        sum,
     } = walk_shape(bytes)?;
     let darts = list.plate.darts;
     if angles.len() != darts || rights.len() != darts {
@@ -107,5 +132,6 @@ pub fn read_shape<'a>(list: PlateList<'a>, bytes: &'a [u8]) -> Result<ShapeFile<
         bytes,
         total,
         counts: Counts { angles, rights },
+        sum,
     })
 }

@@ -1,4 +1,4 @@
--- `write_fields` writes four fields, each where the one before it ended.
+-- `write_fields` writes four fields and the sum, each where the one before it ended.
 use mathlib.Core.Path.{ap, ◌∙◌}
 use Rattle.plates.specs.Files.{two}
 use Rattle.plates.proofs.FileRows.{file_written}
@@ -7,4 +7,4 @@ use Rattle.plates.proofs.reading.PlateList.write_fields.Goals as goal
 pub returns : goal.returns
 returns c =
     file_written c.args.self.now c.args.counts c.requires.given (c.two_bytes-bends.ensures ∙ ap two c.total.ensures) c.requires.enough
-    c.write_field-second.ensures c.write_field-second.auto.out c.write_field-third.ensures c.write_field-third.auto.out c.write_field-fourth.ensures c.write_field-fourth.auto.out c.write_field.ensures
+    c.write_field-second.ensures c.write_field-second.auto.out c.write_field-third.ensures c.write_field-third.auto.out c.write_field-fourth.ensures c.write_field-fourth.auto.out c.write_field-fifth.ensures c.write_field-fifth.auto.out c.write_sum.ensures

@@ -1,6 +1,7 @@
 -- `sound`: the file's counts compared with those of the best shape.
-use Rattle.std.proofs.Common.{rules}
-use Rattle.plates.proofs.Calls.{best_counts, best_total, sound_best}
+use Rattle.std.proofs.Common.{rules, ap, ◌∙◌}
+use Rattle.plates.specs.Files.{sum_of}
+use Rattle.plates.proofs.Calls.{best_counts, sound_best}
 use Rattle.plates.proofs.CheckCounts.{file_verdict}
 use Rattle.plates.proofs.reading.ShapeFile.sound.Goals as goal
 
@@ -16,4 +17,4 @@ returns c =
     let b = c.unwrap-best.result in
     let held = rw c.unwrap-best.ensures at c.best.ensures in
     let k = c.counts-ours.ensures in
-    file_verdict f c.requires (best_counts f.list b held k.0 k.1) c.total.ensures (best_total f.list b held k.0 k.1) c.is_same.ensures
+    file_verdict f c.requires (best_counts f.list b held k.0 k.1) c.total.ensures (c.price_of.ensures ∙ ap (λ ps. sum_of ps c.counts-ours.result.rights.now) c.prices.ensures) c.is_same.ensures
