@@ -1,5 +1,5 @@
 -- What a step over a list promises, from what its parts give: the list's refusal, the step's, 16, or the list after the step. Assumes nothing.
-use mathlib.Core.Path.{◌≡◌, sym, ap, ap₂, subst, ◌∙◌}
+use mathlib.Core.Path.{◌≡◌, sym, ap, subst, ◌∙◌}
 use mathlib.Core.Bool.{Bool, false}
 use mathlib.Core.List.{List}
 use Prim.Native.Nat.{ℕ, ◌+◌, ◌≤◌}
@@ -14,11 +14,11 @@ use Rattle.embedding.specs.declared.Plate.{Plate as Held}
 use Rattle.embedding.specs.declared.journal.Edited.{Edited}
 use Rattle.plates.specs.Answers.{Listed, listed}
 use Rattle.plates.specs.Plates.{Plate, pick_t, first_of}
-use Rattle.plates.specs.Files.{walk_all, plate_of, limits_of}
+use Rattle.plates.specs.Files.{walk_all, plate_of, limits_of, prices_of}
 use Rattle.plates.specs.Listing.{Gives}
 use Rattle.plates.specs.Ordering.{bytes_in}
 use Rattle.plates.specs.declared.reading.PlateList.{PlateList}
-use Rattle.plates.specs.Journal.{Step, step_fault, stepped, new_limit, grown_fields, edit_fault, EditWith, EditSays}
+use Rattle.plates.specs.Journal.{Step, step_fault, stepped, new_limit, new_price, grown_fields, edit_fault, EditWith, EditSays}
 use Rattle.plates.proofs.Journal.{step_darts}
 use Rattle.plates.proofs.ListingRows.{gives_whole}
 use Rattle.edits.specs.Writes.{grown_bytes}
@@ -55,8 +55,8 @@ module _ (l : PlateList) (t : Step) {r : Edited} (h : EditedTo (step_fault (mean
       ap (λ (k : ℕ). first_of k (step_fault (plate_of s) t)) l.accepted
       ∙ ap (λ (p : Plate). step_fault p t) (sym l.table) ∙ no_step_fault (meant l.plate) t h z
 
-  pub step_gives : (o o' : List ℕ) (v : Listed) {limit : ℕ} → limit ≡ new_limit (limits_of s) t → Gives (grown_bytes s (meant r.plate) limit) o o' v → EditSays s t o o' v
+  pub step_gives : (o o' : List ℕ) (v : Listed) {limit price : ℕ} → limit ≡ new_limit (limits_of s) t → price ≡ new_price (prices_of s) t → Gives (grown_bytes s (meant r.plate) limit price) o o' v → EditSays s t o o' v
   unfolding grown_bytes
-  step_gives o o' v e g =
+  step_gives o o' v e f g =
       subst (λ (k : ℕ). EditWith k s t o o' v) (sym none)
-      (subst (λ (b : List ℕ). Gives b o o' v) (ap₂ (λ (p : Plate) (n : ℕ). bytes_in (grown_fields (walk_all false s).fields p n)) plate_is e) g)
+      (subst (λ (b : List ℕ). Gives b o o' v) (λ i. bytes_in (grown_fields (walk_all false s).fields (plate_is i) (e i) (f i))) g)

@@ -7,8 +7,8 @@ ghost use Rattle.embedding.specs.declared.journal.Step.TheVariants.{Split, Hang,
 ghost use Rattle.fields.specs.Writing.{Written};
 ghost use Rattle.plates.specs.Answers.{listed_of};
 ghost use Rattle.plates.specs.Listing.{Gives};
-ghost use Rattle.plates.specs.Journal.{new_limit, EditSays};
-ghost use Rattle.edits.specs.Writes.{more_bytes, grown_bytes};
+ghost use Rattle.plates.specs.Journal.{new_rate, EditSays};
+ghost use Rattle.edits.specs.Writes.{held, with_more, more_long, few, grown_bytes};
 
 use embedding::Plate;
 use embedding::journal::{Step, append};
@@ -16,22 +16,52 @@ use fields::writing::write_field;
 use plates::reading::{PlateList, read_list};
 use refusals::Refusal;
 
-// The limit of the strip that a step makes, as field 07 writes it: 255 is none.
-fn new_limit(limits: &[u8], step: Step) -> u8
-    ensures { result ≡ new_limit limits.now step }
+// The limit or the price of the strip that a step makes, where `unsaid` is that of a strip of which a list says nothing.
+fn new_rate(rates: &[u8], step: Step, unsaid: u8) -> u8
+    ensures { result ≡ new_rate unsaid rates.now step }
 {
     match step {
-        Step::Split(strip) => limits.get(strip).copied().unwrap_or(255),
-        Step::Hang(_) | Step::Join(_, _) => 255,
+        Step::Split(strip) => rates.get(strip).copied().unwrap_or(unsaid),
+        Step::Hang(_) | Step::Join(_, _) => unsaid,
     }
 }
 
-// A list, its plate with one strip more, and that strip's limit.
+// The length of limits or prices with one more behind them, as a field; 0 where there are none.
+fn more_long(rates: Option<&[u8]>) -> usize
+    requires { few (held rates) }
+    ensures { result ≡ more_long (held rates.entry) }
+{
+    match rates {
+        Some(rates) => 4 + rates.len(),
+        None => 0,
+    }
+}
+
+// Writes limits or prices with one more behind them from `at` on, if there are any, and gives the place behind them.
+// `out` stays beside `at`, for the reason that `fields::writing` gives.
+fn write_more(out: &mut [u8], at: usize, tag: u8, rates: Option<&[u8]>, more: u8) -> usize
+    requires few { few (held rates) }
+    requires enough { at + more_long (held rates) ≤ length out.old }
+    ensures { Written at (with_more tag (held rates.entry) more) out.old out.new result }
+{
+    match rates {
+        Some(rates) => {
+            let n = rates.len();
+            let before = append([0; 256], 0, rates);
+            let all = append(before, n, &[more]);
+            write_field(out, at, tag, &all[..n + 1])
+        }
+        None => at,
+    }
+}
+
+// A list, its plate with one strip more, and that strip's limit and price.
 #[derive(Clone, Copy)]
 struct Grown<'a> {
     list: PlateList<'a>,
     plate: Plate,
     limit: u8,
+    price: u8,
     ghost one_more: { plate.darts ≡ list.plate.darts + 2 },
     ghost few: { plate.darts ≤ 256 },
 }
@@ -40,37 +70,18 @@ impl Grown<'_> {
     // The length of the list that is to be written.
     #[tactic(auto, using(crate::proofs::WriteLaws::lengths))]
     fn long(&self) -> usize
-        ensures { result ≡ length (grown_bytes self.now.list.bytes.now (meant self.now.plate) self.now.limit) }
+        ensures { result ≡ length (grown_bytes self.now.list.bytes.now (meant self.now.plate) self.now.limit self.now.price) }
     {
-        let plain = 19 + 2 * self.plate.darts;
-        match self.list.fields.limits {
-            Some(limits) => plain + 4 + limits.len(),
-            None => plain,
-        }
-    }
-
-    // Writes the limits with the new one behind them from `at` on, if the list has any, and gives the place behind them.
-    // `out` stays beside `at`, for the reason that `fields::writing` gives.
-    fn write_limits(&self, out: &mut [u8], at: usize) -> usize
-        requires { at + length (more_bytes self.now.list.bytes.now self.now.limit) ≤ length out.old }
-        ensures { Written at (more_bytes self.now.list.bytes.now self.now.limit) out.old out.new result }
-    {
-        match self.list.fields.limits {
-            Some(limits) => {
-                let n = limits.len();
-                let before = append([0; 256], 0, limits);
-                let all = append(before, n, &[self.limit]);
-                write_field(out, at, 0x07, &all[..n + 1])
-            }
-            None => at,
-        }
+        let limits = more_long(self.list.fields.limits);
+        let prices = more_long(self.list.fields.prices);
+        19 + 2 * self.plate.darts + limits + prices
     }
 
     // Writes the fields of the plate, behind the revision of the list, and gives their length.
     #[tactic(auto, using(crate::proofs::WriteLaws::lengths))]
     fn write_fields(&self, out: &mut [u8]) -> usize
-        requires { length (grown_bytes self.now.list.bytes.now (meant self.now.plate) self.now.limit) ≤ length out.old }
-        ensures { Written 0 (grown_bytes self.now.list.bytes.now (meant self.now.plate) self.now.limit) out.old out.new result }
+        requires { length (grown_bytes self.now.list.bytes.now (meant self.now.plate) self.now.limit self.now.price) ≤ length out.old }
+        ensures { Written 0 (grown_bytes self.now.list.bytes.now (meant self.now.plate) self.now.limit self.now.price) out.old out.new result }
     {
         let darts = self.plate.darts;
         let order = self.plate.order();
@@ -80,13 +91,14 @@ impl Grown<'_> {
         let fourth = write_field(out, third, 0x03, &self.plate.ends[..darts]);
         let fifth = write_field(out, fourth, 0x04, &order[..darts]);
         let sixth = write_field(out, fifth, 0x05, &[self.plate.outer]);
-        self.write_limits(out, sixth)
+        let seventh = write_more(out, sixth, 0x07, self.list.fields.limits, self.limit);
+        write_more(out, seventh, 0x08, self.list.fields.prices, self.price)
     }
 
     // Writes the list to the front of lent memory, or refuses with 16 and changes nothing.
     #[tactic(auto, using(crate::proofs::EditLaws::written_gives))]
     fn write(&self, out: &mut [u8]) -> Result<usize, Refusal>
-        ensures { Gives (grown_bytes self.now.list.bytes.now (meant self.now.plate) self.now.limit) out.old out.new (listed_of result) }
+        ensures { Gives (grown_bytes self.now.list.bytes.now (meant self.now.plate) self.now.limit self.now.price) out.old out.new (listed_of result) }
     {
         if out.len() < self.long() {
             return Err(Refusal::MemoryShort);
@@ -108,7 +120,8 @@ pub fn edit_list(list: &[u8], step: Step, out: &mut [u8]) -> Result<usize, Refus
     let after = Grown {
         list: before,
         plate: edited.plate,
-        limit: new_limit(before.limits(), step),
+        limit: new_rate(before.limits(), step, 255),
+        price: new_rate(before.prices(), step, 1),
     };
     after.write(out)
 }

@@ -1,7 +1,7 @@
 -- The round trips over the calls: what one call wrote stands at the front of its memory, and the other reads it from there. Assumes nothing.
 use mathlib.Core.Path.{◌≡◌, refl, sym, ap, subst, ◌∙◌}
 use mathlib.Core.Bool.{true, false}
-use mathlib.Core.List.{List, ◌++◌}
+use mathlib.Core.List.{List}
 use Prim.Native.Nat.{ℕ, zero, suc, ◌≤◌}
 use native.Mathlib.Omega.{arith}
 use lib.Dec.{ltb}
@@ -17,7 +17,7 @@ use Rattle.plates.specs.Files.{walk_all, list_fault, plate_of, shape_bytes}
 use Rattle.plates.specs.Claims.{BestOf}
 use Rattle.plates.specs.Says.{over, all_bytes, file_long, angles_in, rights_in, check_fault, shape_fault, ShapeWith, ShapeSays}
 use Rattle.plates.specs.Lines.{both_ways}
-use Rattle.plates.specs.Texts.{remark_in, file_text, write_fault, WriteWith, WriteSays, text_fault, bytes_read, read_fault, ReadWith, ReadSays, CameBack, Called}
+use Rattle.plates.specs.Texts.{ButRemark, file_text, write_fault, WriteWith, WriteSays, text_fault, bytes_read, read_fault, ReadWith, ReadSays, CameBack, Called}
 use Rattle.plates.proofs.FileBytes.{shape_bytes_fit}
 use Rattle.texts.proofs.RoundTrips.{round_trips, text_short}
 
@@ -93,8 +93,8 @@ module _ (s t o o' m m' : List ℕ) (w : Listed) (r : Shaped) (bytes : all_bytes
         ap rights_in front ∙ went.rights ∙ came.rights,
       )
 
-  byte_for_byte : all_bytes s ≡ true → take r.long m' ++ remark_in t ≡ t
-  byte_for_byte b = ap (λ (l : List ℕ). l ++ remark_in t) written.1 ∙ round_trips.byte_for_byte s t b bytes sound one
+  byte_for_byte : all_bytes s ≡ true → ButRemark (take r.long m') t
+  byte_for_byte b = subst (λ (l : List ℕ). ButRemark l t) (sym written.1) (round_trips.byte_for_byte s t b bytes sound one)
 
 back_and_to : (s t o o' m m' : List ℕ) (r : Shaped) (w : Listed) → ReadSays s t o o' r → r.number ≡ 0 → length t ≤ length m → WriteSays s (take r.long o') m m' w → (w.number ≡ 0) × (take w.long m' ≡ t)
 back_and_to s t o o' m m' r w says z enough writes =

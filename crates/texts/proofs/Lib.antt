@@ -29,4 +29,5 @@ pub mod Within
 pub mod Called
 pub mod FaceLists
 pub mod Remarks
+pub mod Prices
 pub mod OneAnswer

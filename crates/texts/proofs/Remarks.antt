@@ -8,7 +8,7 @@ use Rattle.finite.proofs.Tests.{first_none}
 use Rattle.fields.proofs.PassedOver.{passed_over}
 use Rattle.plates.specs.Answers.{Shaped}
 use Rattle.plates.specs.Shapes.{rights_of, shape_of}
-use Rattle.plates.specs.Files.{walk_all, list_fault, plate_of, limits_of, shape_bytes}
+use Rattle.plates.specs.Files.{walk_all, list_fault, plate_of, rates_of, is_priced, shape_bytes}
 use Rattle.plates.specs.Claims.{BestOf}
 use Rattle.plates.specs.Says.{all_bytes, ShapeSays}
 use Rattle.plates.specs.Texts.{text_fault, bytes_read, ReadSays}
@@ -25,7 +25,7 @@ equal_files : (s t o o' m m' : List ℕ) (r q : Shaped) → OnlyRemark false s t
 equal_files s t o o' m m' r q h x y z w =
     let g = shape_given s o o' r x z in
     let k = shape_given s m m' q (((lists s t h).shaped m m' q).1 y) w in
-    let (totals, angles, rights) = same_counts (plate_of s) (limits_of s) g.angles g.rights k.angles k.rights g.best g.counts k.best k.counts in
+    let (totals, angles, rights) = same_counts (plate_of s) (rates_of s) g.angles g.rights k.angles k.rights g.best g.counts k.best k.counts in
     g.bytes ∙ ap₂ (λ (c d : List ℕ). shape_bytes (walk_all false s).fields (shape_of (plate_of s) c d)) angles rights ∙ sym k.bytes
 
 module _ (s a r : List ℕ) (e : list_fault s ≡ 0) (best : BestOf s (shape_of (plate_of s) a r)) (counts : rights_of (shape_of (plate_of s) a r).words ≡ r) where
@@ -35,9 +35,9 @@ module _ (s a r : List ℕ) (e : list_fault s ≡ 0) (best : BestOf s (shape_of 
   best_unremarked : NoRemark s b
   best_unremarked = subst (NoRemark s) (sym (shape-bytes s a r e best.meets_all counts)) (no_remark s a r e best.meets_all counts)
 
-  older : all_bytes s ≡ true → OlderFile s b
-  older bytes =
-      let v = files _ _ (older_only s a (rights_of (shape_of (plate_of s) a r).words) best_unremarked.reads) in
+  older : all_bytes s ≡ true → is_priced s ≡ false → OlderFile s b
+  older bytes unpriced =
+      let v = files _ _ (older_only s a (rights_of (shape_of (plate_of s) a r).words) unpriced best_unremarked.reads) in
       let (sound, one, accepted, back) = round_trips.ours s a r e bytes best counts in
       record { verdicts = v; sound = v.number s ∙ sound; back = ap (bytes_read s) (v.text s) ∙ back }
 
@@ -60,6 +60,6 @@ remarks = record {
   shaped = shaped;
   from_text = from_text;
   kept = kept;
-  older = λ s a r e bytes best counts. older s a r e best counts bytes;
+  older = λ s a r e bytes unpriced best counts. older s a r e best counts bytes unpriced;
   without = λ s h. rw h;
 }

@@ -1,7 +1,7 @@
 -- Both round trips over lists, shape files and texts. Assumes nothing.
 use mathlib.Core.Path.{◌≡◌, sym, ap, subst, ◌∙◌}
 use mathlib.Core.Bool.{true, false}
-use mathlib.Core.List.{List, ◌++◌}
+use mathlib.Core.List.{List}
 use Prim.Native.Nat.{ℕ, suc, ◌%◌, ◌≤◌, ◌<◌, min}
 use native.Mathlib.Omega.{arith}
 use lib.ListN.{length, get_or}
@@ -9,25 +9,26 @@ use Rattle.finite.proofs.Tests.{and_left, first_none}
 use Rattle.embedding.proofs.Rotation.{Ordered, twin_even}
 use Rattle.shapes.specs.Claims.{Accepted}
 use Rattle.shapes.proofs.Accepted.{ordered}
-use Rattle.shapes.proofs.BestFits.{within_one_way}
+use Rattle.shapes.proofs.BestFits.{rated_one_way}
 use Rattle.shapes.proofs.Tamassia.{two_to_a_strip}
 use Rattle.shapes.proofs.Words.{words_rights, rights_at, rights_long}
 use Rattle.plates.specs.Plates.{Plate, first_of, darts, strips, twin}
 use Rattle.plates.specs.Shapes.{Shape, shape, meets, rights, rights_of, pair_sums, strip_bends, all_within, shape_of}
-use Rattle.plates.specs.Files.{walk_all, list_fault, plate_of, limits_of, file_bytes, shape_bytes}
+use Rattle.plates.specs.Files.{walk_all, list_fault, plate_of, limits_of, rates_of, file_bytes, shape_bytes}
 use Rattle.plates.specs.Claims.{BestOf}
 use Rattle.plates.specs.Says.{all_bytes, file_long, angles_in, rights_in, check_fault}
-use Rattle.plates.proofs.Lists.{list_accepted}
+use Rattle.plates.proofs.Lists.{list_accepted, list_fair}
 use Rattle.plates.proofs.Sound.{sound_exactly}
-use Rattle.plates.proofs.ReadsBack.{written_reads_back, shape-bytes, rights_many, no_remark}
+use Rattle.plates.proofs.ReadsBack.{written_reads_back, shape-bytes, rights_many, no_remark, sum_written}
 use Rattle.plates.proofs.SoundBytes.{sound_bytes}
 use Rattle.plates.proofs.ListingShort.{byte_at}
 use Rattle.plates.proofs.FileBytes.{contents_bytes, shape_bytes_fit}
 use Rattle.plates.specs.Text.{all_formed}
 use Rattle.plates.specs.Grammar.{entries_in}
 use Rattle.plates.specs.Lines.{face_text, word_of, both_ways}
+use Rattle.plates.specs.Prices.{SumWritten}
 use Rattle.plates.specs.Remarks.{NoRemark}
-use Rattle.plates.specs.Texts.{remark_in, file_text, angles_read, words_read, placed_fault, text_fault, bytes_read, CameBack, WentBack, RoundTrips, TextShort}
+use Rattle.plates.specs.Texts.{file_text, angles_read, words_read, placed_fault, text_fault, bytes_read, CameBack, WentBack, ButRemark, RoundTrips, TextShort}
 use Rattle.texts.proofs.OneWay.{one_way, ways_none, word-long}
 use Rattle.texts.proofs.Grammar.{exact}
 use Rattle.texts.proofs.Refill.{word_fits, word_at_lem, words_long}
@@ -66,7 +67,7 @@ module _ (s t : List ℕ) (bytes : all_bytes t ≡ true) (none : check_fault s t
   Sound = (length r ≡ darts p) × (meets p x ≡ true) × (all_within (limits_of s) (strip_bends x) ≡ true)
 
   sound : Sound
-  sound = let (long, m, revision, bends, kept) = (sound_exactly s t list_ok walk_ok).0 none in (long, m, kept)
+  sound = let (long, m, revision, bends, kept, true-sum) = (sound_exactly s t list_ok walk_ok).0 none in (long, m, kept)
 
   counts : rights_of x.words ≡ r
   counts = words_rights (strips p) r (sound.0 ∙ sym (two_to_a_strip p o))
@@ -86,8 +87,8 @@ module _ (s t : List ℕ) (bytes : all_bytes t ≡ true) (none : check_fault s t
     rights = ap rights_of (words_come p acc a x.words sound.1 straight few) ∙ counts;
   }
 
-  byte_for_byte : all_bytes s ≡ true → bytes_read s (file_text s t) ++ remark_in t ≡ t
-  byte_for_byte b = (λ i. file_bytes (walk_all false s).fields (came_back.angles i) (came_back.rights i) ++ remark_in t) ∙ sound_bytes s t b bytes none
+  byte_for_byte : all_bytes s ≡ true → ButRemark (bytes_read s (file_text s t)) t
+  byte_for_byte b = subst (λ (x : List ℕ). ButRemark x t) (sym (λ i. file_bytes (walk_all false s).fields (came_back.angles i) (came_back.rights i))) (sound_bytes s t b bytes none)
 
   text_short_here : length (file_text s t) ≤ 66962
   text_short_here = text_most p acc a r sound.0 one (λ d l. omega (arith, byte_at r d (contents_bytes true t bytes 20)))
@@ -145,6 +146,9 @@ module _ (s t : List ℕ) (none : text_fault s t ≡ 0) where
   pub read_unremarked : NoRemark s (bytes_read s t)
   read_unremarked = no_remark s a₂ r₂ good shape_meets counts_are
 
+  pub read_summed : SumWritten s (bytes_read s t)
+  read_summed = sum_written s a₂ r₂ good shape_meets counts_are
+
   accepted_short : length t ≤ 66962
   accepted_short =
       let es = entries_in t in
@@ -182,7 +186,7 @@ module _ (s a r : List ℕ) (e : list_fault s ≡ 0) (bytes : all_bytes s ≡ tr
   ys = rights_of x₃.words
 
   never : (d : ℕ) → d < darts p₃ → min (get_or ys d 0) (get_or ys (twin d) 0) ≡ 0
-  never = within_one_way p₃ acc₃ (limits_of s) x₃ best
+  never = rated_one_way p₃ acc₃ (rates_of s) (list_fair s e) x₃ best
 
   ours_one_way : both_ways r ≡ false
   ours_one_way = ways_none r (λ d q l.
