@@ -30,7 +30,8 @@ extern "C" {
  * file, which 29 does not concern. plates_read_text tries 30, 31 and 32 straight
  * after the plate list, then 20, 21 and 25. 35 to 37 are given by
  * plates_split_strip, plates_hang_strip and plates_join_darts alone, straight
- * after the plate list. 40 to 42 are plates_current_revision's alone. */
+ * after the plate list. 40 to 42 are plates_current_revision's alone. Fields 08
+ * and 16 are unknown in an older file. */
 enum plates_refusal {
     PLATES_ACCEPTED = 0,
 
@@ -41,7 +42,8 @@ enum plates_refusal {
     PLATES_TAG_ORDER = 29,         /* tag below the previous one */
     PLATES_FIELD_LENGTH = 4,       /* length not as laid out */
     PLATES_CONTENT_CUT = 5,        /* content passes the end */
-    PLATES_FIELD_ABSENT = 6,       /* a field other than remark and limits is absent */
+    PLATES_FIELD_ABSENT = 6,       /* a field other than remark, limits, prices and
+                                      their sum is absent */
 
     /* plate list */
     PLATES_POST_COUNT = 7,         /* no post, or over 64 */
@@ -55,6 +57,8 @@ enum plates_refusal {
     PLATES_NOT_CONNECTED = 14,     /* not in one piece */
     PLATES_NOT_PLANE = 15,         /* connected, not plane */
     PLATES_LIMITS_LENGTH = 23,     /* limits are not one per strip */
+    PLATES_PRICES_WRONG = 38,      /* the prices are not one per strip, or one outside
+                                      1 to 100 */
 
     /* writing */
     PLATES_NO_SHAPE_WITHIN = 24,   /* shaping only: no shape keeps the limits */
@@ -68,6 +72,9 @@ enum plates_refusal {
     PLATES_TURNS_OF_FACE = 21,     /* turns of some face do not add to +4, outer -4 */
     PLATES_TOTAL_DIFFERS = 22,     /* total is not the sum of the right bends */
     PLATES_LIMIT_PASSED = 25,      /* a strip has more bends than its limit */
+    PLATES_SUM_WRONG = 39,         /* the sum of bends times price is absent though the
+                                      list has prices, present though it has none, or
+                                      not that of the file's own bends */
 
     /* text of faces: each over the whole text before the next */
     PLATES_TEXT_FORM = 30,         /* a line not of the form, or a word of over 255 digits */
@@ -98,11 +105,15 @@ enum plates_refusal {
  * strip, or 255 for no limit. It comes first among all such shapes of the
  * plate: fewest bends, then fewest posts with exactly two strip ends and no
  * angle of 2, then the smaller right bends of darts 0, 1, 2 and so on, then
- * the smaller angles.
- * *long_ is 16 + 4 * strips; 528 bytes are always enough. A remark in the
- * list, field 06, is passed over. No accepted list is longer than 745 bytes.
+ * the smaller angles. Where the list has field 08, a price of 1 to 100 for a bend
+ * of each strip, it has the least sum of bends times price, then the fewest such
+ * posts, then the fewest bends, then the smaller right bends and angles; field 16
+ * (hexadecimal) of the shape file is this sum in four bytes, high byte first.
+ * *long_ is 16 + 4 * strips, and 7 more with prices; 535 bytes are always enough.
+ * A remark in the list, field 06, is passed over. No accepted list is longer than
+ * 876 bytes.
  *
- * 1 to 15, 23, 29: the plate list is refused. 24: no shape keeps its limits;
+ * 1 to 15, 23, 29, 38: the plate list is refused. 24: no shape keeps its limits;
  * never for a list without field 07. 16: out_len is less than the length of
  * the shape. On a refusal `out` is unchanged; *long_ and *bends are 0. */
 uint8_t plates_write_shape(const uint8_t *list, size_t list_len,
@@ -111,13 +122,15 @@ uint8_t plates_write_shape(const uint8_t *list, size_t list_len,
 
 /* Gives a verdict on a shape file against a plate list.
  *
- * 0: the shape meets H1 to H4 and keeps the limits. *total is its total bends,
- * *fewest the least total bends of all such shapes of the plate, and *ours says
+ * 0: the shape meets H1 to H4 and keeps the limits, and its field 16 is the sum
+ * of its bends times price exactly where the list has prices. *total is its total
+ * bends, *fewest the least total bends of all such shapes of the plate or, where
+ * the list has prices, their least sum of bends times price, and *ours says
  * whether its angles and right bends are those that plates_write_shape writes.
  * A remark in the shape file, field 15, is passed over.
  *
- * 1 to 15, 23, 29: the plate list is refused. 1 to 6 and 29 also: the shape
- * file is refused, after the plate list was accepted. 17 to 22, 25: as in the
+ * 1 to 15, 23, 29, 38: the plate list is refused. 1 to 6 and 29 also: the shape
+ * file is refused, after the plate list was accepted. 17 to 22, 25, 39: as in the
  * table. Never 16 or 24.
  * On a refusal *total and *fewest are 0 and *ours is false. */
 uint8_t plates_check_shape(const uint8_t *list, size_t list_len,
@@ -129,7 +142,7 @@ uint8_t plates_check_shape(const uint8_t *list, size_t list_len,
  * 0: the first *long_ bytes of `out` are the text and the bytes behind them
  * are as before. For an accepted list the text has the lines "revision R",
  * "bends B" and, for each dart, "dart D right R angle A"; for a list refused
- * with N (1 to 15, 23, 29), or with 24 where no shape keeps its limits, it has
+ * with N (1 to 15, 23, 29, 38), or with 24 where no shape keeps its limits, it has
  * the one line "refused N". Each line ends with a line feed, and there is no
  * null byte.
  *
@@ -152,7 +165,7 @@ uint8_t plates_write_listing(const uint8_t *list, size_t list_len,
  * as before. plates_read_text makes of it the shape file that it came from, byte
  * for byte but for a remark, field 15. 66,962 bytes are always enough.
  *
- * 1 to 15, 17 to 23, 25, 29: as in plates_check_shape. Then 31: some strip
+ * 1 to 15, 17 to 23, 25, 29, 38, 39: as in plates_check_shape. Then 31: some strip
  * bends both ways; never in a file of plates_write_shape. Then 16: out_len is
  * less than the length of the text. On a refusal `out` is unchanged and *long_
  * is 0. */
@@ -165,10 +178,11 @@ uint8_t plates_write_text(const uint8_t *list, size_t list_len,
  *
  * 0: the first *long_ bytes of `out` are the shape file and the bytes behind
  * them are as before; *bends is its total bends. It is sound and bends no strip
- * both ways, and plates_write_text makes the same text of it. *long_ is
- * 16 + 4 * strips; 528 bytes are always enough.
+ * both ways, and plates_write_text makes the same text of it. It has field 16
+ * where the list has prices. *long_ is 16 + 4 * strips, and 7 more with prices;
+ * 535 bytes are always enough.
  *
- * 1 to 15, 23, 29: the plate list is refused. Then 30: some line is not of the
+ * 1 to 15, 23, 29, 38: the plate list is refused. Then 30: some line is not of the
  * form above, or has a word of over 255 digits; a dart may be any number of
  * digits long. Then 31: some word has both digits. Then 32: the darts, line by
  * line, are not those of the plate's faces in their sequence and from their
@@ -189,7 +203,8 @@ uint8_t plates_read_text(const uint8_t *list, size_t list_len,
  * and with the same fields, and the bytes behind them are as before. A file
  * that is in order comes back unchanged.
  *
- * 1 to 6: the file is refused, with no regard to the order of its tags. 16:
+ * 1 to 6: the file is refused, with no regard to the order of its tags; with 2
+ * for fields 08 and 16 too, the prices and their sum. 16:
  * out_len is less than file_len. On a refusal `out` is unchanged and *long_
  * is 0. */
 uint8_t plates_order_fields(const uint8_t *file, size_t file_len,
@@ -204,10 +219,11 @@ uint8_t plates_order_fields(const uint8_t *file, size_t file_len,
  * list before, its fields in tag order, and no remark. The face of the outer dart
  * stays outer. Where the list before has limits, field 07, so has this one, with
  * one byte more: a split gives the new strip the limit of the old one, and other
- * new strips have 255. *long_ is 19 + 4 * strips, and 3 + strips more with
- * limits, by the strips after the step; 662 bytes are always enough.
+ * new strips have 255. So it is with prices, field 08, where other new strips have
+ * price 1. *long_ is 19 + 4 * strips, and 3 + strips more with limits and as much
+ * with prices, by the strips after the step; 793 bytes are always enough.
  *
- * 1 to 15, 23, 29: the plate list is refused. Then 35, 36 and 37 as told at each
+ * 1 to 15, 23, 29, 38: the plate list is refused. Then 35, 36 and 37 as told at each
  * step. Then 16: out_len is less than the length of the list. On a refusal `out`
  * is unchanged and *long_ is 0. A journal is replayed by giving each step the list
  * that the step before it wrote; the list before a refused step is its end. */

@@ -44,8 +44,8 @@ use std::error::Error;
 use std::fmt;
 
 /// Lent memory of this length is enough for the shape of every plate list:
-/// 16 bytes, and 4 for each of 128 strips.
-pub const LONGEST_SHAPE: usize = 16 + 4 * 128;
+/// 16 bytes, and 4 for each of 128 strips; for a list with prices 7 more.
+pub const LONGEST_SHAPE: usize = 16 + 4 * 128 + 7;
 
 /// Lent memory of this length is enough for the text of every shape file: the
 /// digits of the numbers 0 to 255, and for each of these darts a word of 255
@@ -54,8 +54,8 @@ pub const LONGEST_TEXT: usize = 10 + 2 * 90 + 3 * 156 + 256 * (255 + 4);
 
 /// Lent memory of this length is enough for the plate list after every step:
 /// 19 bytes, and 4 for each of 128 strips; with limits 3 more, and 1 for each
-/// strip.
-pub const LONGEST_STEPPED_LIST: usize = 19 + 4 * 128 + 3 + 128;
+/// strip, and with prices as many again.
+pub const LONGEST_STEPPED_LIST: usize = 19 + 4 * 128 + 2 * (3 + 128);
 
 /// A shape that was written.
 #[derive(Clone, Copy, Debug, PartialEq, Eq)]
@@ -71,7 +71,8 @@ pub struct Shape {
 pub struct Verdict {
     /// The shape file's total bends.
     pub total: u32,
-    /// The least total bends of all shapes of the plate that keep the limits.
+    /// The least total bends of all shapes of the plate that keep the limits;
+    /// for a list with prices, their least sum of bends times price.
     pub fewest: u32,
     /// Whether angles and right bends are those that [`write_shape`] writes.
     pub ours: bool,
@@ -83,12 +84,16 @@ pub struct Verdict {
 /// posts with exactly two strip ends and no angle of 2, then the smaller right
 /// bends of darts 0, 1, 2 and so on, then the smaller angles. Where the list
 /// has field 07, with the most bends of each strip or 255 for no limit, it is
-/// the best of the shapes within these limits. Its length is 16 + 4 · strips.
+/// the best of the shapes within these limits. Where the list has field 08, with
+/// a price of 1 to 100 for a bend of each strip, the least sum of bends times
+/// price comes first, then the fewest such posts, then the fewest bends, then the
+/// rest of this order; the shape has this sum in field 16 (hexadecimal), in four
+/// bytes, high byte first. Its length is 16 + 4 · strips, and 7 more with prices.
 /// The bytes of `out` behind the shape stay as they are. A remark in the list,
-/// field 06, is passed over. No accepted list is longer than 745 bytes.
+/// field 06, is passed over. No accepted list is longer than 876 bytes.
 ///
 /// # Errors
-/// Refusals 1 to 15, 23 and 29 for the plate list, then
+/// Refusals 1 to 15, 23, 29 and 38 for the plate list, then
 /// [`Refusal::NoShapeWithin`] where no shape keeps its limits, never for a list
 /// without field 07, then [`Refusal::MemoryShort`] where `out` is shorter than
 /// the shape. On a refusal `out` is unchanged.
@@ -100,11 +105,11 @@ pub struct Verdict {
 ///     0x01, 0, 2, 0, 7, 0x02, 0, 1, 2, 0x03, 0, 4, 0, 1, 0, 1, //
 ///     0x04, 0, 4, 0, 2, 1, 3, 0x05, 0, 1, 1,
 /// ];
-/// let mut out = [0xee; 30];
+/// let mut out = [0xee; 31];
 /// assert_eq!(write_shape(&list, &mut out[..23]), Err(Refusal::MemoryShort));
-/// assert_eq!(out, [0xee; 30]);
+/// assert_eq!(out, [0xee; 31]);
 /// assert_eq!(write_shape(&list, &mut out).unwrap().length, 24);
-/// assert_eq!(out[24..], [0xee; 6]);
+/// assert_eq!(out[24..], [0xee; 7]);
 ///
 /// // Without limits both bends are on strip 1. With at most one on each strip,
 /// // darts 0 and 3 have one; with none on strip 0 as well, there is no shape.
@@ -114,6 +119,12 @@ pub struct Verdict {
 /// assert_eq!(out[20..24], [1, 0, 0, 1]);
 /// let none = write_shape(&within([0, 1]), &mut out);
 /// assert_eq!(none, Err(Refusal::NoShapeWithin));
+///
+/// // Where a bend on strip 1 costs 5 and one on strip 0 costs 3, both are on strip
+/// // 0, and the shape has the sum 6.
+/// let priced = [&list[..], &[0x08, 0, 2, 3, 5]].concat();
+/// assert_eq!(write_shape(&priced, &mut out).unwrap().length, 31);
+/// assert_eq!(out[20..], [2, 0, 0, 0, 0x16, 0, 4, 0, 0, 0, 6]);
 /// ```
 pub fn write_shape(list: &[u8], out: &mut [u8]) -> Result<Shape, Refusal> {
     shape_by(|length, bends| {
@@ -133,11 +144,12 @@ pub fn write_shape(list: &[u8], out: &mut [u8]) -> Result<Shape, Refusal> {
 }
 
 /// Gives a verdict on a shape file against a plate list. A remark in the shape
-/// file, field 15, is passed over.
+/// file, field 15, is passed over. For a list with prices the shape file has the
+/// sum of its own bends times price, field 16, and for other lists it has none.
 ///
 /// # Errors
-/// Refusals 1 to 15, 23 and 29 for the plate list; then 1 to 6, 29, 17 to 22
-/// and 25 for the shape file. Never 16 or 24.
+/// Refusals 1 to 15, 23, 29 and 38 for the plate list; then 1 to 6, 29, 17 to 22,
+/// 25 and 39 for the shape file. Never 16 or 24.
 ///
 /// ```
 /// use plates::{check_shape, Refusal, Verdict};
@@ -154,6 +166,17 @@ pub fn write_shape(list: &[u8], out: &mut [u8]) -> Result<Shape, Refusal> {
 /// assert_eq!(check_shape(&list, &shape), Ok(sound));
 /// let limited = [&list[..], &[0x07, 0, 2, 255, 1]].concat();
 /// assert_eq!(check_shape(&limited, &shape), Err(Refusal::LimitPassed));
+///
+/// // With prices of 5 and 3 both bends on strip 1 cost 6, and both on strip 0
+/// // would cost 10.
+/// let priced = [&list[..], &[0x08, 0, 2, 5, 3]].concat();
+/// assert_eq!(check_shape(&priced, &shape), Err(Refusal::SumWrong));
+/// let costing = |sum| [&shape[..], &[0x16, 0, 4, 0, 0, 0, sum]].concat();
+/// assert_eq!(check_shape(&priced, &costing(10)), Err(Refusal::SumWrong));
+/// let sound = Verdict { total: 2, fewest: 6, ours: true };
+/// assert_eq!(check_shape(&priced, &costing(6)), Ok(sound));
+/// assert_eq!(check_shape(&list, &costing(6)), Err(Refusal::SumWrong));
+///
 /// shape[9] = 3;
 /// assert_eq!(check_shape(&list, &shape), Err(Refusal::TotalDiffers));
 /// ```
@@ -280,11 +303,12 @@ pub fn write_text(list: &[u8], shape: &[u8], out: &mut [u8]) -> Result<usize, Re
 /// the revision of the plate list and no remark.
 ///
 /// The shape file is sound and bends no strip both ways, and [`write_text`]
-/// makes the same text of it. Its length is 16 + 4 · strips. The bytes of `out`
-/// behind it stay as they are.
+/// makes the same text of it. For a list with prices it has the sum of its bends
+/// times price. Its length is 16 + 4 · strips, and 7 more with prices. The bytes
+/// of `out` behind it stay as they are.
 ///
 /// # Errors
-/// Refusals 1 to 15, 23 and 29 for the plate list; then, each over the whole
+/// Refusals 1 to 15, 23, 29 and 38 for the plate list; then, each over the whole
 /// text, [`Refusal::TextForm`], [`Refusal::MixedWord`] and
 /// [`Refusal::TextFaces`], the last one also for a text of no bytes; then
 /// [`Refusal::AnglesAtPost`], [`Refusal::TurnsOfFace`] and
@@ -348,11 +372,12 @@ pub fn read_text(list: &[u8], text: &[u8], out: &mut [u8]) -> Result<Shape, Refu
 ///
 /// A first byte of 0x10 or above means a shape file, any other, and none, a
 /// plate list. The bytes of `out` behind the file stay as they are. A file
-/// that is in order comes back unchanged.
+/// that is in order comes back unchanged. No older file has prices or their sum.
 ///
 /// # Errors
-/// Refusals 1 to 6, and [`Refusal::MemoryShort`] where `out` is shorter than
-/// `file`. On a refusal `out` is unchanged.
+/// Refusals 1 to 6, [`Refusal::UnknownTag`] for fields 08 and 16 too, and
+/// [`Refusal::MemoryShort`] where `out` is shorter than `file`. On a refusal
+/// `out` is unchanged.
 ///
 /// ```
 /// use plates::{order_fields, Refusal};
@@ -386,12 +411,13 @@ pub fn order_fields(file: &[u8], out: &mut [u8]) -> Result<usize, Refusal> {
 /// There are as many faces as before, and the face of the outer dart stays outer.
 ///
 /// The list written is accepted. It has the revision and the outer dart of `list`,
-/// its fields in tag order and no remark. Where `list` has limits, field 07, the
-/// new strip has the limit of `strip`. Its length is 19 + 4 · strips, and 3 +
-/// strips more with limits. The bytes of `out` behind it stay as they are.
+/// its fields in tag order and no remark. Where `list` has limits, field 07, or
+/// prices, field 08, the new strip has those of `strip`. Its length is 19 + 4 ·
+/// strips, and 3 + strips more with limits, and as much with prices. The bytes of
+/// `out` behind it stay as they are.
 ///
 /// # Errors
-/// Refusals 1 to 15, 23 and 29 for the plate list; then [`Refusal::NoSuchStep`]
+/// Refusals 1 to 15, 23, 29 and 38 for the plate list; then [`Refusal::NoSuchStep`]
 /// where `strip` is not below m; then [`Refusal::PlateFull`] where there are 64
 /// posts; then [`Refusal::MemoryShort`] where `out` is shorter than the list. On
 /// a refusal `out` is unchanged.
@@ -433,10 +459,10 @@ pub fn split_strip(list: &[u8], strip: usize, out: &mut [u8]) -> Result<usize, R
 /// the outer dart stays outer.
 ///
 /// The list written is as that of [`split_strip`], but the new strip has limit
-/// 255, which is none.
+/// 255, which is none, and price 1.
 ///
 /// # Errors
-/// Refusals 1 to 15, 23 and 29 for the plate list; then [`Refusal::NoSuchStep`]
+/// Refusals 1 to 15, 23, 29 and 38 for the plate list; then [`Refusal::NoSuchStep`]
 /// where `dart` is not below 2m; then [`Refusal::PlateFull`] where there are 64
 /// posts; then [`Refusal::PostFull`] where four places are taken at the post where
 /// `dart` ends; then [`Refusal::MemoryShort`] where `out` is shorter than the
@@ -483,10 +509,10 @@ pub fn hang_strip(list: &[u8], dart: usize, out: &mut [u8]) -> Result<usize, Ref
 /// There is one face more, and the one with the outer dart is outer.
 ///
 /// The list written is as that of [`split_strip`], but the new strip has limit
-/// 255, which is none.
+/// 255, which is none, and price 1.
 ///
 /// # Errors
-/// Refusals 1 to 15, 23 and 29 for the plate list; then [`Refusal::NoSuchStep`]
+/// Refusals 1 to 15, 23, 29 and 38 for the plate list; then [`Refusal::NoSuchStep`]
 /// where `dart` or `other` is not below 2m, or they are equal or of two faces;
 /// then [`Refusal::PlateFull`] where there are 128 strips; then
 /// [`Refusal::PostFull`] where four places are taken at a post where one of them
@@ -739,7 +765,8 @@ pub enum Refusal {
     FieldLength = 4,
     /// A field's content passes the end.
     ContentCut = 5,
-    /// A field other than the remark and the limits is absent.
+    /// A field other than the remark, the limits, the prices and their sum is
+    /// absent.
     FieldAbsent = 6,
     /// No post, or over 64.
     PostCount = 7,
@@ -795,6 +822,11 @@ pub enum Refusal {
     PlateFull = 36,
     /// A step to a fifth place at a post.
     PostFull = 37,
+    /// The prices are not one for each strip, or one is outside 1 to 100.
+    PricesWrong = 38,
+    /// The sum of bends times price is absent though the list has prices, present
+    /// though it has none, or not that of the shape's own bends.
+    SumWrong = 39,
     /// The last entry of a book has under six bytes.
     EntryCut = 40,
     /// An entry's revision is 0, or already listed for its model.
@@ -806,7 +838,7 @@ pub enum Refusal {
 
 impl Refusal {
     /// Every refusal, by rising number.
-    pub const ALL: [Refusal; 34] = [
+    pub const ALL: [Refusal; 36] = [
         Refusal::FieldCut,
         Refusal::UnknownTag,
         Refusal::RepeatedTag,
@@ -838,12 +870,14 @@ impl Refusal {
         Refusal::NoSuchStep,
         Refusal::PlateFull,
         Refusal::PostFull,
+        Refusal::PricesWrong,
+        Refusal::SumWrong,
         Refusal::EntryCut,
         Refusal::RevisionListed,
         Refusal::NotCurrent,
     ];
 
-    /// Its number: 1 to 25, never 10, or 29 to 32, or 35 to 37, or 40 to 42.
+    /// Its number: 1 to 25, never 10, or 29 to 32, or 35 to 42.
     pub fn number(self) -> u8 {
         self as u8
     }
@@ -896,6 +930,8 @@ impl Refusal {
             Refusal::NoSuchStep => "a strip or dart is not there, or darts are equal or of two faces",
             Refusal::PlateFull => "a step needs post 65 or strip 129",
             Refusal::PostFull => "a step needs a fifth place at a post",
+            Refusal::PricesWrong => "the prices must give one price of 1 to 100 for each strip",
+            Refusal::SumWrong => "the sum of bends times price is missing, not called for, or false",
             Refusal::EntryCut => "the book ends in the middle of an entry",
             Refusal::RevisionListed => "an entry's revision is 0 or already listed for its model",
             Refusal::NotCurrent => "an entry replaces a revision that is not its model's current one or, for a new model, not 0",
@@ -919,7 +955,7 @@ mod tests {
     fn numbers_and_refusals_agree() {
         for number in 0..=255 {
             let refusal = Refusal::from_number(number);
-            let given = matches!(number, 0..=9 | 11..=25 | 29..=32 | 35..=37 | 40..=42);
+            let given = matches!(number, 0..=9 | 11..=25 | 29..=32 | 35..=42);
             assert_eq!(refusal.map_or(0, Refusal::number) == number, given);
         }
     }

@@ -18,8 +18,8 @@ fn show(rt: &impl Print, list: &[u8], shape: &[u8]) -> io::Result<()> {
     }
 }
 
-// Of a longer file only the first 4,096 bytes are read. No accepted list is longer than 745 bytes and no
-// sound shape longer than 611, so such a file is refused, by the number that the whole has (`Files.front`).
+// Of a longer file only the first 4,096 bytes are read. No accepted list is longer than 876 bytes and no
+// sound shape longer than 618, so such a file is refused, by the number that the whole has (`Files.front`).
 // One call of what the programs share; each `main` names its own files and sizes.
 fn main(rt: HostRuntime) -> io::Result<()> {
     with_files::<4096, 4096, _, _>(&rt, b"plate list", b"shape file", |list, shape| {

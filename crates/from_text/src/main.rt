@@ -17,12 +17,12 @@ fn write_shape(list: &[u8], text: &[u8], out: &mut [u8]) -> Result<usize, Refusa
 }
 
 // No text of over 66,962 bytes is accepted (`TextShort.accepted`), and of such a one no answer is given. A written
-// shape file has at most 528 bytes, so 16 is never printed.
+// shape file has at most 535 bytes, so 16 is never printed.
 fn show(rt: &impl Print, list: &[u8], text: &[u8]) -> io::Result<()> {
     if text.len() == 66963 {
         return complain(rt, b"text", b": over 66962 bytes", b"");
     }
-    print_answer::<528, _>(rt, |out| write_shape(list, text, out))
+    print_answer::<535, _>(rt, |out| write_shape(list, text, out))
 }
 
 // Of a longer list only the first 4,096 bytes are read, which have the number of the whole (`Files.front`).

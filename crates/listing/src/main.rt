@@ -12,7 +12,7 @@ fn show(rt: &impl Print, list: &[u8]) -> io::Result<()> {
     print_answer::<8192, _>(rt, |text| write_listing(list, text))
 }
 
-// Of longer input only the first 1,024 bytes are read. No accepted list is longer than 745 bytes, so such
+// Of longer input only the first 1,024 bytes are read. No accepted list is longer than 876 bytes, so such
 // input is refused, by the number that the whole has (`Files.front`).
 // One call of what the programs share; each `main` names its own files and sizes.
 fn main(rt: HostRuntime) -> io::Result<()> {

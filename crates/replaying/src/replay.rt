@@ -68,7 +68,7 @@ impl Replay {
         self.line
     }
 
-    // No list after a step has more than 662 bytes (`AfterStep.longest`), so 16 never comes.
+    // No list after a step has more than 793 bytes (`AfterStep.longest`), so 16 never comes.
     fn take_line(&mut self, line: &[u8]) -> Result<(), Stop>
         requires { self.old.line < 65536 }
         ensures { stand (take self.new.long self.new.list) self.new.line result ≡ on_line (going (take self.old.long self.old.list) self.old.line) (step_in line.now) }

@@ -1,5 +1,5 @@
 //! Shapes and checks small plates, converts their shapes to text and back, and prints a line for each. The expected
-//! lines were worked out by hand from document 01.
+//! lines were worked out by hand from documents 01 and 02.
 //! A line of shaping: the label, the number, and with 0 the length, the bends and the bytes; then how many bytes behind the
 //! shape, or with a refusal in the whole memory, are as they were lent. A line of checking: the label, the number, and with
 //! 0 the total, the fewest and whether the shape is the one that shaping writes. A line of text: a shape file converted to
@@ -28,6 +28,14 @@ const P1_LIMITS_1_1: &[u8] =
 const P1_LIMITS_1_0: &[u8] =
     b"\x01\x00\x02\x00\x07\x02\x00\x01\x02\x03\x00\x04\x00\x01\x00\x01\x04\x00\x04\x00\x02\x01\x03\x05\x00\x01\x01\x07\x00\x02\x01\x00";
 
+// P1, a bend on strip 1 costs twice one on strip 0.
+const P1_PRICES_1_2: &[u8] =
+    b"\x01\x00\x02\x00\x07\x02\x00\x01\x02\x03\x00\x04\x00\x01\x00\x01\x04\x00\x04\x00\x02\x01\x03\x05\x00\x01\x01\x08\x00\x02\x01\x02";
+
+// P1, each strip with at most one bend, and prices 1 2.
+const P1_LIMITS_PRICES: &[u8] =
+    b"\x01\x00\x02\x00\x07\x02\x00\x01\x02\x03\x00\x04\x00\x01\x00\x01\x04\x00\x04\x00\x02\x01\x03\x05\x00\x01\x01\x07\x00\x02\x01\x01\x08\x00\x02\x01\x02";
+
 // P3: a square.
 const P3: &[u8] =
     b"\x01\x00\x02\x00\x07\x02\x00\x01\x04\x03\x00\x08\x00\x01\x01\x02\x02\x03\x03\x00\x04\x00\x08\x00\x07\x01\x02\x03\x04\x05\x06\x05\x00\x01\x01";
@@ -51,6 +59,14 @@ const P1_SHAPE: &[u8] =
 // The shape of P1 within limits 1 1: a bend on each strip.
 const P1_ONE_EACH: &[u8] =
     b"\x11\x00\x02\x00\x07\x12\x00\x02\x00\x02\x13\x00\x04\x01\x03\x03\x01\x14\x00\x04\x01\x00\x00\x01";
+
+// The shape of P1 with prices 1 2: both bends on dart 0, which cost 2.
+const P1_PRICED: &[u8] =
+    b"\x11\x00\x02\x00\x07\x12\x00\x02\x00\x02\x13\x00\x04\x01\x03\x03\x01\x14\x00\x04\x02\x00\x00\x00\x16\x00\x04\x00\x00\x00\x02";
+
+// The shape of P1 that we write where no bend has a price, with what it would cost for prices 1 2.
+const P1_SHAPE_COSTS_4: &[u8] =
+    b"\x11\x00\x02\x00\x07\x12\x00\x02\x00\x02\x13\x00\x04\x01\x03\x03\x01\x14\x00\x04\x00\x00\x00\x02\x16\x00\x04\x00\x00\x00\x04";
 
 // A sound shape of P1 whose strip 0 bends both ways.
 const P1_BOTH_WAYS: &[u8] =
@@ -212,7 +228,7 @@ fn walk_refusals(rt: &impl Print) -> io::Result<()> {
         b"\x01\x00\x02\x00\x07\x02\x00\x01\x02\x03\x00\x04\x00\x01\x00\x01\x04\x00\x04\x00\x02\x01\x03\x05\x00\x01\x01\x06\x00",
     )?;
     // A tag that no file has.
-    shape(rt, "tag 08", b"\x08\x00\x00")?;
+    shape(rt, "tag 09", b"\x09\x00\x00")?;
     // A tag of the shape file.
     shape(rt, "tag 11", P1_SHAPE)?;
     // A tag met before.
@@ -242,7 +258,7 @@ fn walk_refusals(rt: &impl Print) -> io::Result<()> {
 // Several faults in the walk: all six are tried at one field before the next.
 fn first_in_walk(rt: &impl Print) -> io::Result<()> {
     // 1 comes before 2.
-    shape(rt, "other tag and two bytes", b"\x08\x00")?;
+    shape(rt, "other tag and two bytes", b"\x09\x00")?;
     // 2 comes before 4 and 5.
     shape(rt, "tag ff", b"\xff\xff\xff")?;
     // 3 comes before 4 and 5.
@@ -262,8 +278,8 @@ fn first_in_walk(rt: &impl Print) -> io::Result<()> {
     // A fault 4 in the first field comes before a fault 2 in the second.
     shape(
         rt,
-        "posts of two, then tag 08",
-        b"\x02\x00\x02\x02\x02\x08\x00\x00",
+        "posts of two, then tag 09",
+        b"\x02\x00\x02\x02\x02\x09\x00\x00",
     )?;
     // A fault 1 behind a field comes before 6.
     shape(rt, "revision and one byte", b"\x01\x00\x02\x00\x07\x02")?;
@@ -818,7 +834,113 @@ fn check_more_limits(rt: &impl Print) -> io::Result<()> {
     )
 }
 
-// The heads of the six fields of the longest list without limits: 64 posts, 256 bytes of strips and of order, a remark of 80 zeros.
+// Prices of bends: the least sum first, then, with as many cornered posts, the fewest bends.
+fn prices(rt: &impl Print) -> io::Result<()> {
+    // Both bends on the cheaper strip.
+    shape(rt, "P1, prices 1 2", P1_PRICES_1_2)?;
+    // All prices alike: the shape is the one without prices.
+    shape(
+        rt,
+        "P1, prices 100 100",
+        b"\x01\x00\x02\x00\x07\x02\x00\x01\x02\x03\x00\x04\x00\x01\x00\x01\x04\x00\x04\x00\x02\x01\x03\x05\x00\x01\x01\x08\x00\x02\x64\x64",
+    )?;
+    // Within the limits.
+    shape(rt, "P1, limits 1 1, prices 1 2", P1_LIMITS_PRICES)?;
+    // Six bends on strips 0 and 1 cost less than four of which two are on strip 2.
+    shape(
+        rt,
+        "P7, prices 1 1 9",
+        b"\x01\x00\x02\x00\x07\x02\x00\x01\x02\x03\x00\x06\x00\x01\x00\x01\x00\x01\x04\x00\x06\x00\x02\x04\x05\x03\x01\x05\x00\x01\x01\x08\x00\x03\x01\x01\x09",
+    )?;
+    // Four, five and six bends cost 6 each: four.
+    shape(
+        rt,
+        "P7, prices 1 1 2",
+        b"\x01\x00\x02\x00\x07\x02\x00\x01\x02\x03\x00\x06\x00\x01\x00\x01\x00\x01\x04\x00\x06\x00\x02\x04\x05\x03\x01\x05\x00\x01\x01\x08\x00\x03\x01\x01\x02",
+    )?;
+    // Seven, eight and nine bends cost 10 each, and only with eight post 2 is straight: eight.
+    shape(
+        rt,
+        "five strips, prices 1 1 1 1 2",
+        b"\x01\x00\x02\x00\x07\x02\x00\x01\x03\x03\x00\x0a\x00\x01\x00\x01\x00\x02\x02\x01\x00\x01\x04\x00\x0a\x00\x02\x04\x08\x09\x07\x03\x01\x05\x06\x05\x00\x01\x01\x08\x00\x05\x01\x01\x01\x01\x02",
+    )?;
+    // A shape with a sum is 7 bytes longer.
+    let mut short = [0xeeu8; 30];
+    shape_into(rt, "P1, prices 1 2, in 30", P1_PRICES_1_2, &mut short)
+}
+
+// Prices that are refused, and what comes before and behind them.
+fn prices_refused(rt: &impl Print) -> io::Result<()> {
+    // One price for two strips.
+    shape(
+        rt,
+        "P1, one price",
+        b"\x01\x00\x02\x00\x07\x02\x00\x01\x02\x03\x00\x04\x00\x01\x00\x01\x04\x00\x04\x00\x02\x01\x03\x05\x00\x01\x01\x08\x00\x01\x01",
+    )?;
+    // A bend costs something.
+    shape(
+        rt,
+        "P1, prices 0 1",
+        b"\x01\x00\x02\x00\x07\x02\x00\x01\x02\x03\x00\x04\x00\x01\x00\x01\x04\x00\x04\x00\x02\x01\x03\x05\x00\x01\x01\x08\x00\x02\x00\x01",
+    )?;
+    // At most 100.
+    shape(
+        rt,
+        "P1, prices 1 101",
+        b"\x01\x00\x02\x00\x07\x02\x00\x01\x02\x03\x00\x04\x00\x01\x00\x01\x04\x00\x04\x00\x02\x01\x03\x05\x00\x01\x01\x08\x00\x02\x01\x65",
+    )?;
+    // 23 comes before 38.
+    shape(
+        rt,
+        "P1, one limit, one price",
+        b"\x01\x00\x02\x00\x07\x02\x00\x01\x02\x03\x00\x04\x00\x01\x00\x01\x04\x00\x04\x00\x02\x01\x03\x05\x00\x01\x01\x07\x00\x01\x01\x08\x00\x01\x01",
+    )?;
+    // 38 comes before 24.
+    shape(
+        rt,
+        "P1, limits 1 0, one price",
+        b"\x01\x00\x02\x00\x07\x02\x00\x01\x02\x03\x00\x04\x00\x01\x00\x01\x04\x00\x04\x00\x02\x01\x03\x05\x00\x01\x01\x07\x00\x02\x01\x00\x08\x00\x01\x01",
+    )
+}
+
+// Sums of shape files: 39, and what comes before it.
+fn check_sums(rt: &impl Print) -> io::Result<()> {
+    check(rt, "P1, prices 1 2", P1_PRICES_1_2, P1_PRICED)?;
+    // Sound, but not ours: the least sum is 2.
+    check(
+        rt,
+        "P1, prices 1 2, bends on dart 3",
+        P1_PRICES_1_2,
+        P1_SHAPE_COSTS_4,
+    )?;
+    // No sum for a list with prices.
+    check(rt, "P1, prices 1 2, no sum", P1_PRICES_1_2, P1_SHAPE)?;
+    // A sum for a list without prices.
+    check(rt, "P1, a sum", P1, P1_PRICED)?;
+    // The sum of other bends.
+    check(
+        rt,
+        "P1, prices 1 2, sum 3",
+        P1_PRICES_1_2,
+        b"\x11\x00\x02\x00\x07\x12\x00\x02\x00\x02\x13\x00\x04\x01\x03\x03\x01\x14\x00\x04\x02\x00\x00\x00\x16\x00\x04\x00\x00\x00\x03",
+    )?;
+    // 25 comes before 39.
+    check(
+        rt,
+        "P1, limits 1 1, prices 1 2, no sum",
+        P1_LIMITS_PRICES,
+        P1_SHAPE,
+    )
+}
+
+// To text and back with prices: 39 going, the sum coming back.
+fn texts_priced(rt: &impl Print) -> io::Result<()> {
+    text(rt, "P1, prices 1 2", P1_PRICES_1_2, P1_PRICED)?;
+    text(rt, "P1, prices 1 2, no sum", P1_PRICES_1_2, P1_SHAPE)?;
+    back(rt, "P1, prices 1 2", P1_PRICES_1_2, P1_TEXT)
+}
+
+// The heads of the six fields of the longest list without limits and prices: 64 posts, 256 bytes of strips and of order, a remark of 80 zeros.
 fn ring_heads() -> [u8; 614] {
     let mut list = [0u8; 614];
     list[0] = 0x01;
@@ -1082,11 +1204,15 @@ fn main(rt: HostRuntime) -> io::Result<()> {
     limits_refused(&rt)?;
     check_limits(&rt)?;
     check_more_limits(&rt)?;
+    prices(&rt)?;
+    prices_refused(&rt)?;
+    check_sums(&rt)?;
     texts(&rt)?;
     texts_back(&rt)?;
     texts_refused(&rt)?;
     lines_refused(&rt)?;
     counts_refused(&rt)?;
+    texts_priced(&rt)?;
     text_memory(&rt)?;
     back_memory(&rt)
 }

@@ -70,7 +70,8 @@ pub extern "C" fn plates_write_shape(
     give_written(write_shape(list, out), long, bends)
 }
 
-// Checking: the refusal's number, or 0 with the file's total, the fewest within the limits, and whether the shape is the one written.
+// Checking: the refusal's number, or 0 with the file's total, the fewest within the limits (for a list with prices the least sum), and whether
+// the shape is the one written.
 #[unsafe(no_mangle)]
 pub extern "C" fn plates_check_shape(
     list: &[u8],

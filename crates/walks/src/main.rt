@@ -43,11 +43,11 @@ fn zeros<'a>(out: &'a mut [u8], fields: &[(u8, usize)]) -> &'a [u8] {
     &out[..at]
 }
 
-// A list of fields of zeros, of these lengths for strips, order, remark and limits of bends.
+// A list of fields of zeros, of these lengths for strips, order, remark, limits and prices of bends.
 fn long_list(
     rt: &impl Print,
     label: &[u8],
-    [strips, order, remark, limits]: [usize; 4],
+    [strips, order, remark, limits, prices]: [usize; 5],
 ) -> io::Result<()> {
     let fields = [
         (0x01, 2),
@@ -57,16 +57,17 @@ fn long_list(
         (0x05, 1),
         (0x06, remark),
         (0x07, limits),
+        (0x08, prices),
     ];
     let mut s = [0u8; 4096];
     list(rt, label, zeros(&mut s, &fields))
 }
 
-// A shape of fields of zeros, of these lengths for angles, right bends and remark.
+// A shape of fields of zeros, of these lengths for angles, right bends, remark and sum.
 fn long_shape(
     rt: &impl Print,
     label: &[u8],
-    [angles, rights, remark]: [usize; 3],
+    [angles, rights, remark, sum]: [usize; 4],
 ) -> io::Result<()> {
     let fields = [
         (0x11, 2),
@@ -74,6 +75,7 @@ fn long_shape(
         (0x13, angles),
         (0x14, rights),
         (0x15, remark),
+        (0x16, sum),
     ];
     let mut s = [0u8; 4096];
     shape(rt, label, zeros(&mut s, &fields))
@@ -88,7 +90,7 @@ fn list_ends(rt: &impl Print) -> io::Result<()> {
     // Two bytes remain.
     list(rt, b"two bytes", b"\x01\x00")?;
     // 1 comes before 2.
-    list(rt, b"other tag, two bytes", b"\x08\x00")?;
+    list(rt, b"other tag, two bytes", b"\x09\x00")?;
     // Every field but the remark, in tag order; none remains.
     list(
         rt,
@@ -116,7 +118,7 @@ fn list_tags(rt: &impl Print) -> io::Result<()> {
     // Below the first tag.
     list(rt, b"tag 00", b"\x00\x00\x00")?;
     // Behind the last tag.
-    list(rt, b"tag 08", b"\x08\x00\x00")?;
+    list(rt, b"tag 09", b"\x09\x00\x00")?;
     // A tag of the shape file.
     list(rt, b"tag 11", b"\x11\x00\x02\x00\x07")?;
     // 2 comes before 4 and 5.
@@ -278,9 +280,9 @@ fn list_below(rt: &impl Print) -> io::Result<()> {
 // Two faults in one list: the earlier place counts.
 fn list_two(rt: &impl Print) -> io::Result<()> {
     // A length, then a tag.
-    list(rt, b"4, then 2", b"\x02\x00\x02\x01\x01\x08\x00\x00")?;
+    list(rt, b"4, then 2", b"\x02\x00\x02\x01\x01\x09\x00\x00")?;
     // A tag, then one byte.
-    list(rt, b"2, then 1", b"\x08\x00\x00\x01")?;
+    list(rt, b"2, then 1", b"\x09\x00\x00\x01")?;
     // A tag met before, then one byte.
     list(
         rt,
@@ -352,7 +354,7 @@ fn shape_tags(rt: &impl Print) -> io::Result<()> {
     // Below the first tag.
     shape(rt, b"tag 10", b"\x10\x00\x00")?;
     // Behind the last tag.
-    shape(rt, b"tag 16", b"\x16\x00\x00")?;
+    shape(rt, b"tag 17", b"\x17\x00\x00")?;
     // A tag of the plate list.
     shape(rt, b"tag 01", b"\x01\x00\x02\x00\x07")?;
     // A tag met before.
@@ -396,9 +398,9 @@ fn shape_lengths(rt: &impl Print) -> io::Result<()> {
     // Only the length of the strips is even; the other fields are absent.
     shape(rt, b"13 of 3", b"\x13\x00\x03\x01\x01\x02")?;
     // A tag, then a content that passes the end.
-    shape(rt, b"2, then 5", b"\x16\x00\x00\x11\x00\x02\x00")?;
+    shape(rt, b"2, then 5", b"\x17\x00\x00\x11\x00\x02\x00")?;
     // A length, then a tag.
-    shape(rt, b"4, then 2", b"\x12\x00\x01\x02\x16\x00\x00")?;
+    shape(rt, b"4, then 2", b"\x12\x00\x01\x02\x17\x00\x00")?;
     // A tag met before, then one byte.
     shape(
         rt,
@@ -409,34 +411,39 @@ fn shape_lengths(rt: &impl Print) -> io::Result<()> {
 
 // Limits of a list.
 fn long_lists(rt: &impl Print) -> io::Result<()> {
-    // The longest list, 745 bytes.
-    long_list(rt, b"256 256 80 128", [256, 256, 80, 128])?;
+    // The longest list, 876 bytes.
+    long_list(rt, b"256 256 80 128 128", [256, 256, 80, 128, 128])?;
     // A remark of 81 bytes.
-    long_list(rt, b"256 256 81 128", [256, 256, 81, 128])?;
+    long_list(rt, b"256 256 81 128 128", [256, 256, 81, 128, 128])?;
     // Strips of odd length.
-    long_list(rt, b"257 256 80 128", [257, 256, 80, 128])?;
+    long_list(rt, b"257 256 80 128 128", [257, 256, 80, 128, 128])?;
     // Strips over 256 bytes.
-    long_list(rt, b"258 256 80 128", [258, 256, 80, 128])?;
+    long_list(rt, b"258 256 80 128 128", [258, 256, 80, 128, 128])?;
     // An order over 256 bytes.
-    long_list(rt, b"256 257 80 128", [256, 257, 80, 128])?;
+    long_list(rt, b"256 257 80 128 128", [256, 257, 80, 128, 128])?;
     // An order of odd length.
-    long_list(rt, b"256 255 80 128", [256, 255, 80, 128])?;
+    long_list(rt, b"256 255 80 128 128", [256, 255, 80, 128, 128])?;
     // Limits of 129 bytes.
-    long_list(rt, b"256 256 80 129", [256, 256, 80, 129])
+    long_list(rt, b"256 256 80 129 128", [256, 256, 80, 129, 128])?;
+    // Prices of 129 bytes.
+    long_list(rt, b"256 256 80 128 129", [256, 256, 80, 128, 129])
 }
 
 // Limits of a shape.
 fn long_shapes(rt: &impl Print) -> io::Result<()> {
-    // The longest shape, 611 bytes.
-    long_shape(rt, b"256 256 80", [256, 256, 80])?;
+    // The longest shape, 618 bytes.
+    long_shape(rt, b"256 256 80 4", [256, 256, 80, 4])?;
     // A remark of 81 bytes.
-    long_shape(rt, b"256 256 81", [256, 256, 81])?;
+    long_shape(rt, b"256 256 81 4", [256, 256, 81, 4])?;
     // Angles over 256 bytes.
-    long_shape(rt, b"257 256 80", [257, 256, 80])?;
+    long_shape(rt, b"257 256 80 4", [257, 256, 80, 4])?;
     // Right bends over 256 bytes.
-    long_shape(rt, b"256 258 80", [256, 258, 80])?;
+    long_shape(rt, b"256 258 80 4", [256, 258, 80, 4])?;
     // Angles of odd length.
-    long_shape(rt, b"255 256 80", [255, 256, 80])
+    long_shape(rt, b"255 256 80 4", [255, 256, 80, 4])?;
+    // A sum of 3 bytes, and of 5.
+    long_shape(rt, b"256 256 80 3", [256, 256, 80, 3])?;
+    long_shape(rt, b"256 256 80 5", [256, 256, 80, 5])
 }
 
 // Older files: the walk in any order.
@@ -482,6 +489,14 @@ fn older_faults(rt: &impl Print) -> io::Result<()> {
         b"02, 01, one byte",
         b"\x02\x00\x01\x02\x01\x00\x02\x00\x07\x03",
         false,
+    )?;
+    // Prices, and their sum in a shape, have no tag in older files.
+    older(rt, b"05, then 08", b"\x05\x00\x01\x01\x08\x00\x00", false)?;
+    older(
+        rt,
+        b"12, then 16",
+        b"\x12\x00\x02\x00\x02\x16\x00\x04\x00\x00\x00\x02",
+        true,
     )?;
     older(rt, b"empty", b"", false)
 }
@@ -531,6 +546,9 @@ fn ordered_files(rt: &impl Print) -> io::Result<()> {
     // A first byte of 10 hexadecimal means a shape file, of which it is no tag; 0F a plate list.
     order_into(rt, b"10", b"\x10\x00\x00", &mut few)?;
     order_into(rt, b"0F, cut", b"\x0f\x00", &mut few)?;
+    // 08 and 16 are no tags here, wherever they stand.
+    order_into(rt, b"08", b"\x08\x00\x00", &mut few)?;
+    order_into(rt, b"16", b"\x16\x00\x04\x00\x00\x00\x00", &mut few)?;
     order_into(rt, b"empty", b"", &mut few)
 }
 
