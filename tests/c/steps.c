@@ -5,7 +5,7 @@
 #include <string.h>
 
 /* The last two bytes are the limits of strips 0 and 1. */
-static uint8_t list[662] = {1, 0, 2, 0, 7, 2, 0, 1, 2, 3, 0, 4, 0, 1, 0, 1,
+static uint8_t list[793] = {1, 0, 2, 0, 7, 2, 0, 1, 2, 3, 0, 4, 0, 1, 0, 1,
                             4, 0, 4, 0, 2, 1, 3, 5, 0, 1, 1, 7, 0, 2, 8, 9};
 static size_t list_length = 32;
 static uint8_t out[sizeof list];

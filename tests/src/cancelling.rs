@@ -1,14 +1,14 @@
 //! The best shape of any plate within its limits by cycle cancelling on the
 //! flow network of document 01.
 //!
-//! The cost of a flow is the vector (bends, cornered posts, right bends of
-//! darts 0, 1, 2 and so on, angles of darts 0, 1, 2 and so on), compared
-//! lexicographically. Negative cycles are cancelled for its first two
-//! components, then, among the flows that are least so far, for one component
-//! after another. The angle of a dart is on two arcs, the second for what is
-//! over 2 where that leaves a post cornered. Right bends that pass a limit are
-//! on arcs of their own, which outweigh all bends: where the least cost leaves
-//! some, there is no shape.
+//! The cost of a flow is the vector (bends times price, cornered posts, bends,
+//! right bends of darts 0, 1, 2 and so on, angles of darts 0, 1, 2 and so on),
+//! compared lexicographically; without prices each price is 1. Negative cycles
+//! are cancelled for its first three components, then, among the flows that are
+//! least so far, for one component after another. The angle of a dart is on two
+//! arcs, the second for what is over 2 where that leaves a post cornered. Right
+//! bends that pass a limit are on arcs of their own, which outweigh all prices:
+//! where the least cost leaves some, there is no shape.
 
 use crate::plate::{twin, Plate, Shape};
 use std::collections::VecDeque;
@@ -41,10 +41,16 @@ struct Network {
 /// More than any flow that can be needed.
 const UNLIMITED: i64 = 1 << 40;
 
-/// A bend outweighs any cornered posts.
-const BEND: i64 = 1 << 20;
+/// A bend. A cycle goes through each of at most 130 nodes once.
+const BEND: i64 = 1;
 
-/// A bend over a limit outweighs any bends.
+/// A cornered post outweighs the bends of a cycle.
+const CORNERED: i64 = 1 << 10;
+
+/// One of a price outweighs the cornered posts of a cycle.
+const PRICE: i64 = 1 << 20;
+
+/// A bend over a limit outweighs the prices of a cycle.
 const OVER: i64 = 1 << 40;
 
 /// The best shape of an accepted plate within its limits, or none.
@@ -57,7 +63,7 @@ pub fn best(plate: &Plate) -> Option<Shape> {
 pub fn best_or_cut(plate: &Plate) -> Result<Shape, Vec<bool>> {
     let mut network = any_flow(plate);
     network.hold_to_limits(plate);
-    let potentials = network.cancel_for_bends();
+    let potentials = network.cancel_for_prices();
     let over = 3 * plate.darts()..network.arcs.len();
     if let Some(arc) = over.clone().find(|&arc| network.arcs[arc].flow > 0) {
         return Err(network.shut_in(arc, over));
@@ -97,7 +103,7 @@ fn network(plate: &Plate, faces: &[Vec<usize>]) -> Network {
         low: 0,
         high: UNLIMITED,
         flow: 0,
-        cost: BEND,
+        cost: PRICE * i64::from(plate.price(d)) + BEND,
     };
     let corner = |d| Arc {
         tail: plate.head(d),
@@ -111,7 +117,7 @@ fn network(plate: &Plate, faces: &[Vec<usize>]) -> Network {
         low: 0,
         high: if plate.at_joint(d) { 2 } else { 0 },
         flow: 0,
-        cost: 1,
+        cost: CORNERED,
         ..corner(d)
     };
     let bends = (0..plate.darts()).map(bend);
@@ -264,7 +270,7 @@ impl Network {
 
     /// Cancels negative cycles until there is none, and gives potentials that
     /// show it.
-    fn cancel_for_bends(&mut self) -> Vec<i64> {
+    fn cancel_for_prices(&mut self) -> Vec<i64> {
         loop {
             match self.negative_cycle() {
                 Err(potentials) => return potentials,
@@ -335,7 +341,7 @@ impl Network {
 
     /// Makes the flow of one arc after another as small as the earlier ones
     /// allow. Only arcs that the potentials make free of cost can change
-    /// without more bends.
+    /// without a greater one.
     fn cancel_among_ties(&mut self, potentials: &[i64]) {
         let free = |a: &Arc| potentials[a.tail] + a.cost == potentials[a.head];
         let mut open: Vec<bool> = self.arcs.iter().map(free).collect();

@@ -1,16 +1,16 @@
 //! Whether a given shape is the best one within the limits, by the cost vectors
 //! of document 01, and whether no shape keeps the limits, by a cut.
 //!
-//! The cost of a flow is the vector (bends, cornered posts, right bends of
-//! darts 0, 1, 2 and so on, angles of darts 0, 1, 2 and so on), compared
-//! lexicographically. At a post with two strip ends one more on an angle of 2
-//! or 3 makes a cornered post more. A shape is the best one when no cycle of
-//! the residual network costs less than the zero vector. Bellman and Ford's
-//! method decides it.
+//! The cost of a flow is the vector (bends times price, cornered posts, bends,
+//! right bends of darts 0, 1, 2 and so on, angles of darts 0, 1, 2 and so on),
+//! compared lexicographically; without prices each price is 1. At a post with two
+//! strip ends one more on an angle of 2 or 3 makes a cornered post more. A shape
+//! is the best one when no cycle of the residual network costs less than the zero
+//! vector. Bellman and Ford's method decides it.
 
 use crate::plate::{twin, Plate, Shape};
 
-/// Bends, cornered posts, then one component for each arc.
+/// Bends times price, cornered posts, bends, then one component for each arc.
 type Cost = Vec<i32>;
 
 /// One unit more or less on an arc, as an arc of the residual network.
@@ -19,8 +19,8 @@ struct Step {
     to: usize,
     /// Right bends of dart d have number d, its angle has number 2m + d.
     arc: usize,
-    bends: i32,
-    cornered: i32,
+    /// What one unit more has of the first three components.
+    unit: [i32; 3],
     sign: i32,
 }
 
@@ -77,32 +77,28 @@ fn residual(plate: &Plate, faces: &[Vec<usize>], shape: &Shape) -> Vec<Step> {
     let mut steps = Vec::new();
     for d in 0..plate.darts() {
         let bend = (face_of(d), face_of(twin(d)));
+        let unit = [plate.price(d) as i32, 0, 1];
         if plate.limit(d).is_none_or(|most| shape.rights[d] < most) {
-            steps.push(step(bend, d, (1, 0), true));
+            steps.push(step(bend, d, unit, true));
         }
         if shape.rights[d] > 0 {
-            steps.push(step(bend, d, (1, 0), false));
+            steps.push(step(bend, d, unit, false));
         }
         let corner = (plate.head(d), face_of(d));
         let over = |angle| i32::from(plate.at_joint(d) && angle > 2);
         if shape.angles[d] < 4 {
-            let cost = (0, over(shape.angles[d] + 1));
-            steps.push(step(corner, plate.darts() + d, cost, true));
+            let unit = [0, over(shape.angles[d] + 1), 0];
+            steps.push(step(corner, plate.darts() + d, unit, true));
         }
         if shape.angles[d] > 1 {
-            let cost = (0, over(shape.angles[d]));
-            steps.push(step(corner, plate.darts() + d, cost, false));
+            let unit = [0, over(shape.angles[d]), 0];
+            steps.push(step(corner, plate.darts() + d, unit, false));
         }
     }
     steps
 }
 
-fn step(
-    (tail, head): (usize, usize),
-    arc: usize,
-    (bends, cornered): (i32, i32),
-    more: bool,
-) -> Step {
+fn step((tail, head): (usize, usize), arc: usize, unit: [i32; 3], more: bool) -> Step {
     let (from, to, sign) = if more {
         (tail, head, 1)
     } else {
@@ -112,15 +108,14 @@ fn step(
         from,
         to,
         arc,
-        bends: bends * sign,
-        cornered: cornered * sign,
+        unit,
         sign,
     }
 }
 
 fn has_negative_cycle(plate: &Plate, faces: &[Vec<usize>], steps: &[Step]) -> bool {
     let nodes = plate.posts + faces.len();
-    let mut distance: Vec<Cost> = vec![vec![0; 2 + 2 * plate.darts()]; nodes];
+    let mut distance: Vec<Cost> = vec![vec![0; 3 + 2 * plate.darts()]; nodes];
     (0..=nodes).all(|_| relax(&mut distance, steps))
 }
 
@@ -129,9 +124,8 @@ fn relax(distance: &mut [Cost], steps: &[Step]) -> bool {
     let mut changed = false;
     for step in steps {
         let mut cost = distance[step.from].clone();
-        cost[0] += step.bends;
-        cost[1] += step.cornered;
-        cost[2 + step.arc] += step.sign;
+        (0..3).for_each(|i| cost[i] += step.sign * step.unit[i]);
+        cost[3 + step.arc] += step.sign;
         if cost < distance[step.to] {
             distance[step.to] = cost;
             changed = true;

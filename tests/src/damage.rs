@@ -1,7 +1,7 @@
 //! Sound files made unsound: bytes changed, files cut, fields exchanged, doubled,
 //! left out, lengthened. A few come out unchanged. And lists with each number.
 
-use crate::files::{list_bytes, with_limits};
+use crate::files::{list_bytes, with_limits, with_prices};
 use crate::plate::{by_number, Plate};
 use crate::random::Random;
 
@@ -99,7 +99,7 @@ pub fn refused_lists() -> Vec<(u8, Vec<u8>)> {
     crossed.order = vec![vec![0, 2, 4], vec![1, 3, 5]];
     vec![
         (1, sound[..2].to_vec()),
-        (2, [&sound[..], &[8, 0, 0]].concat()),
+        (2, [&sound[..], &[9, 0, 0]].concat()),
         (3, [&sound[..5], &sound[..]].concat()),
         (29, [&sound[5..9], &sound[..5], &sound[9..]].concat()),
         (4, [&sound[..], &[6, 0, 81], &[0; 81]].concat()),
@@ -116,5 +116,10 @@ pub fn refused_lists() -> Vec<(u8, Vec<u8>)> {
         (15, list(&crossed)),
         (23, with_limits(&sound, &[])),
         (23, with_limits(&sound, &[1, 1])),
+        (38, with_prices(&sound, &[])),
+        (38, with_prices(&sound, &[1, 1])),
+        (38, with_prices(&sound, &[0])),
+        (38, with_prices(&sound, &[101])),
+        (38, with_prices(&with_limits(&sound, &[255]), &[255])),
     ]
 }

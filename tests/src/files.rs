@@ -1,5 +1,5 @@
-//! Files of document 01 and requests E2, E7 and E9: fields, refusals 1 to 25 and
-//! 29, shape files, listings, older files put in order.
+//! Files of document 01 and requests E2, E7, E9 and E12: fields, refusals 1 to 25,
+//! 29, 38 and 39, shape files, listings, older files put in order.
 //! A refusal is its number.
 
 use crate::damage::split_fields;
@@ -16,7 +16,8 @@ pub struct List {
     pub plate: Plate,
 }
 
-/// A sound verdict.
+/// A sound verdict: the fewest bends or, for a list with prices, the least sum of
+/// bends times price.
 #[derive(Debug, PartialEq, Eq)]
 pub struct Verdict {
     pub total: u32,
@@ -34,7 +35,7 @@ fn list_layout(tag: u8, length: usize) -> Option<bool> {
         0x03 => length & 1 == 0 && length <= 256,
         0x04 => length <= 256,
         0x06 => length <= 80,
-        0x07 => length <= 128,
+        0x07 | 0x08 => length <= 128,
         _ => return None,
     })
 }
@@ -44,8 +45,19 @@ fn shape_layout(tag: u8, length: usize) -> Option<bool> {
         0x11 | 0x12 => length == 2,
         0x13 | 0x14 => length <= 256,
         0x15 => length <= 80,
+        0x16 => length == 4,
         _ => return None,
     })
+}
+
+/// Older lists have no prices.
+fn older_list_layout(tag: u8, length: usize) -> Option<bool> {
+    list_layout(tag, length).filter(|_| tag != 0x08)
+}
+
+/// Older shape files have no sum.
+fn older_shape_layout(tag: u8, length: usize) -> Option<bool> {
+    shape_layout(tag, length).filter(|_| tag != 0x16)
 }
 
 /// Whether the tags of a file must ascend.
@@ -110,8 +122,8 @@ fn refuse_if(condition: bool, number: u8) -> Result<(), u8> {
 /// An older file, in any order, with its fields in tag order: 1 to 6.
 pub fn in_order(file: &[u8]) -> Result<Vec<u8>, u8> {
     let fields = match file.first() {
-        Some(0x10..) => read_fields(file, shape_layout, 0x11..=0x14, Order::Any)?,
-        _ => read_fields(file, list_layout, 0x01..=0x05, Order::Any)?,
+        Some(0x10..) => read_fields(file, older_shape_layout, 0x11..=0x14, Order::Any)?,
+        _ => read_fields(file, older_list_layout, 0x01..=0x05, Order::Any)?,
     };
     let mut ordered = Vec::new();
     for (tag, content) in &fields {
@@ -120,7 +132,7 @@ pub fn in_order(file: &[u8]) -> Result<Vec<u8>, u8> {
     Ok(ordered)
 }
 
-/// Reads a plate list: 1 to 15, 23 and 29.
+/// Reads a plate list: 1 to 15, 23, 29 and 38.
 pub fn read_list(file: &[u8]) -> Result<List, u8> {
     let mut fields = read_fields(file, list_layout, 0x01..=0x05, Order::Rising)?;
     let posts = usize::from(fields[&0x02][0]);
@@ -131,6 +143,7 @@ pub fn read_list(file: &[u8]) -> Result<List, u8> {
         order: Vec::new(),
         outer: usize::from(fields[&0x05][0]),
         limits: Vec::new(),
+        prices: Vec::new(),
     };
     check_strips(&plate)?;
     plate.order = clockwise(&plate, &fields[&0x04]).ok_or(12)?;
@@ -140,6 +153,11 @@ pub fn read_list(file: &[u8]) -> Result<List, u8> {
     if let Some(limits) = fields.remove(&0x07) {
         refuse_if(limits.len() != plate.strips.len(), 23)?;
         plate.limits = limits;
+    }
+    if let Some(prices) = fields.remove(&0x08) {
+        refuse_if(prices.len() != plate.strips.len(), 38)?;
+        refuse_if(prices.iter().any(|price| !(1..=100).contains(price)), 38)?;
+        plate.prices = prices;
     }
     Ok(List {
         revision: fields[&0x01].clone(),
@@ -198,15 +216,16 @@ fn bytes(counts: &[u32]) -> Vec<u8> {
 pub fn list_fields(plate: &Plate, revision: u16, remark: Option<&[u8]>) -> Vec<Vec<u8>> {
     let ends: Vec<u8> = plate.strips.iter().flatten().map(|&p| p as u8).collect();
     let order: Vec<u8> = plate.order.iter().flatten().map(|&d| d as u8).collect();
-    let limits = Some(&plate.limits[..]).filter(|limits| !limits.is_empty());
-    let contents: [Option<&[u8]>; 7] = [
+    let some = |content| Some(content).filter(|content: &&[u8]| !content.is_empty());
+    let contents: [Option<&[u8]>; 8] = [
         Some(&revision.to_be_bytes()),
         Some(&[plate.posts as u8]),
         Some(&ends),
         Some(&order),
         Some(&[plate.outer as u8]),
         remark,
-        limits,
+        some(&plate.limits[..]),
+        some(&plate.prices[..]),
     ];
     let mut fields = Vec::new();
     for (tag, content) in (1..).zip(contents) {
@@ -226,9 +245,22 @@ pub fn with_limits(list: &[u8], content: &[u8]) -> Vec<u8> {
     list
 }
 
+/// A list with a field 08 of this content behind its other fields.
+pub fn with_prices(list: &[u8], content: &[u8]) -> Vec<u8> {
+    let mut list = list.to_vec();
+    push_field(&mut list, 0x08, content);
+    list
+}
+
 /// A plate list with its fields in tag order.
 pub fn list_bytes(plate: &Plate, revision: u16, remark: Option<&[u8]>) -> Vec<u8> {
     list_fields(plate, revision, remark).concat()
+}
+
+/// The sum that a shape file tells, if the list has prices.
+fn sum_of(plate: &Plate, shape: &Shape) -> Option<[u8; 4]> {
+    let sum = plate.sum(&shape.rights).to_be_bytes();
+    (!plate.prices.is_empty()).then_some(sum)
 }
 
 /// The file of a shape, with its fields in tag order.
@@ -239,13 +271,26 @@ pub fn shape_bytes(list: &List, shape: &Shape) -> Vec<u8> {
     push_field(&mut file, 0x12, &total.to_be_bytes());
     push_field(&mut file, 0x13, &bytes(&shape.angles));
     push_field(&mut file, 0x14, &bytes(&shape.rights));
+    if let Some(sum) = sum_of(&list.plate, shape) {
+        file = with_sum(&file, &sum);
+    }
     file
 }
 
-/// A shape file with a field 15 of this content behind its other fields.
+/// A shape file with a field 15 of this content at its place in tag order.
 pub fn with_remark(file: &[u8], content: &[u8]) -> Vec<u8> {
+    let mut remark = Vec::new();
+    push_field(&mut remark, 0x15, content);
+    let (before, after): (Vec<_>, Vec<_>) = split_fields(file)
+        .into_iter()
+        .partition(|field| field[0] < 0x15);
+    [before.concat(), remark, after.concat()].concat()
+}
+
+/// A shape file with a field 16 of this content behind its other fields.
+pub fn with_sum(file: &[u8], content: &[u8]) -> Vec<u8> {
     let mut file = file.to_vec();
-    push_field(&mut file, 0x15, content);
+    push_field(&mut file, 0x16, content);
     file
 }
 
@@ -263,15 +308,15 @@ pub fn file_of(list: &[u8], shape: &Shape) -> Vec<u8> {
 }
 
 /// The shape file to be written for a plate list, with its total bends: 1 to
-/// 15, 23 and 29, then 24.
+/// 15, 23, 29 and 38, then 24.
 pub fn shape_of(file: &[u8], best: Solver) -> Result<(Vec<u8>, u32), u8> {
     let list = read_list(file)?;
     let shape = best(&list.plate).ok_or(24)?;
     Ok((shape_bytes(&list, &shape), shape.bends()))
 }
 
-/// The list and the shape of a sound shape file: 1 to 15, 23 and 29 for the
-/// list, then 1 to 6, 29, 17 to 22 and 25.
+/// The list and the shape of a sound shape file: 1 to 15, 23, 29 and 38 for the
+/// list, then 1 to 6, 29, 17 to 22, 25 and 39.
 pub fn read_shape(file: &[u8], shape_file: &[u8]) -> Result<(List, Shape), u8> {
     let list = read_list(file)?;
     let plate = &list.plate;
@@ -289,6 +334,8 @@ pub fn read_shape(file: &[u8], shape_file: &[u8]) -> Result<(List, Shape), u8> {
     let total = u32::from(u16::from_be_bytes([fields[&0x12][0], fields[&0x12][1]]));
     refuse_if(total != shape.bends(), 22)?;
     refuse_if(!plate.keeps_limits(&shape.rights), 25)?;
+    let sum = sum_of(plate, &shape).map(Vec::from);
+    refuse_if(fields.get(&0x16) != sum.as_ref(), 39)?;
     Ok((list, shape))
 }
 
@@ -298,7 +345,7 @@ pub fn verdict_of(file: &[u8], shape_file: &[u8], best: Solver) -> Result<Verdic
     let ours = best(&list.plate).expect("the shape of the file keeps the limits");
     Ok(Verdict {
         total: shape.bends(),
-        fewest: ours.bends(),
+        fewest: list.plate.sum(&ours.rights),
         ours: shape == ours,
     })
 }

@@ -5,7 +5,7 @@
 //! - [`book`]: books of entries by sets of revisions.
 //! - [`files`]: fields, refusals, shape files, verdicts, listings, older files.
 //! - [`texts`]: texts of faces by lines and items.
-//! - [`plate`]: darts, rotation, faces, limits, the conditions H3 and H4.
+//! - [`plate`]: darts, rotation, faces, limits, prices, the conditions H3 and H4.
 //! - [`steps`]: the editor's steps over a plain table of post orders.
 //! - [`search`]: the best shape of a small plate by trying every shape.
 //! - [`cancelling`]: the best shape of any plate by cancelling cycles.

@@ -13,6 +13,8 @@ pub struct Plate {
     /// The most bends that each strip may have, 255 for no limit; empty where
     /// the list has no limits.
     pub limits: Vec<u8>,
+    /// The price of a bend of each strip; empty where the list has no prices.
+    pub prices: Vec<u8>,
 }
 
 /// Angles and right bends of every dart.
@@ -58,6 +60,7 @@ pub fn by_number(posts: usize, strips: &[[usize; 2]], outer: usize) -> Plate {
         order: (0..posts).map(leaving).collect(),
         outer,
         limits: Vec::new(),
+        prices: Vec::new(),
     }
 }
 
@@ -97,6 +100,25 @@ impl Plate {
             limits: limits.to_vec(),
             ..self.clone()
         }
+    }
+
+    /// The same plate with these prices.
+    pub fn priced(&self, prices: &[u8]) -> Plate {
+        Plate {
+            prices: prices.to_vec(),
+            ..self.clone()
+        }
+    }
+
+    /// The price of a bend on the strip of a dart; 1 where there are no prices.
+    pub fn price(&self, dart: usize) -> u32 {
+        self.prices.get(dart / 2).map_or(1, |&price| price.into())
+    }
+
+    /// The sum of bends times price; without prices the total of bends.
+    pub fn sum(&self, rights: &[u32]) -> u32 {
+        let cost = |(dart, &right): (usize, &u32)| right * self.price(dart);
+        rights.iter().enumerate().map(cost).sum()
     }
 
     /// The most bends that the strip of a dart may have, if it has a limit.

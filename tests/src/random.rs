@@ -44,6 +44,7 @@ fn one_strip() -> Plate {
         order: vec![vec![0], vec![1]],
         outer: 0,
         limits: Vec::new(),
+        prices: Vec::new(),
     }
 }
 
@@ -55,6 +56,7 @@ fn two_strips() -> Plate {
         order: vec![vec![0, 2], vec![3, 1]],
         outer: 0,
         limits: Vec::new(),
+        prices: Vec::new(),
     }
 }
 
@@ -134,6 +136,7 @@ fn medial(plate: &Plate) -> Plate {
         order: (0..plate.strips.len()).map(around).collect(),
         outer: 0,
         limits: Vec::new(),
+        prices: Vec::new(),
     }
 }
 
@@ -240,6 +243,7 @@ pub fn double_ring(posts: usize) -> Plate {
         order,
         outer: 0,
         limits: Vec::new(),
+        prices: Vec::new(),
     }
 }
 
@@ -263,7 +267,23 @@ pub fn looped_ring(posts: usize) -> Plate {
         order,
         outer: 0,
         limits: Vec::new(),
+        prices: Vec::new(),
     }
+}
+
+/// Random prices for the strips of a plate: the same on all, of a few, the least
+/// and the greatest, or any.
+pub fn random_prices(plate: &Plate, random: &mut Random) -> Vec<u8> {
+    let any = |random: &mut Random| 1 + random.below(100) as u8;
+    let same = any(random);
+    let kind = random.below(4);
+    let mut price = || match kind {
+        0 => same,
+        1 => [1, 2, 3][random.below(3)],
+        2 => [1, 100][random.below(2)],
+        _ => any(random),
+    };
+    plate.strips.iter().map(|_| price()).collect()
 }
 
 /// A plate list with a random revision and perhaps a remark.

@@ -25,7 +25,9 @@ fn count<T>(met: &mut BTreeMap<u8, usize>, answer: &Result<T, u8>) -> u8 {
 
 /// A sound shape file without its remark, if it has one.
 fn without_remark(file: &[u8]) -> Vec<u8> {
-    split_fields(file)[..4].concat()
+    let mut fields = split_fields(file);
+    fields.retain(|field| field[0] != 0x15);
+    fields.concat()
 }
 
 impl Met {

@@ -1,5 +1,5 @@
 //! Every plate with few strips, each once or with every starting dart, and every
-//! choice of small limits on one.
+//! choice of small limits, or of a few prices, on one.
 
 use crate::files::{list_bytes, read_list};
 use crate::plate::Plate;
@@ -63,6 +63,7 @@ fn each_order(posts: usize, strips: &[[usize; 2]], orders: Orders, visit: &mut d
                 order: order.clone(),
                 outer,
                 limits: Vec::new(),
+                prices: Vec::new(),
             });
         }
     }
@@ -109,12 +110,29 @@ pub fn each_accepted(strips: usize, share: usize, visit: &mut dyn FnMut(&Plate))
 /// The limits that are tried on each strip; 255 is none.
 const LIMITS: [u8; 4] = [0, 1, 2, 255];
 
+/// The prices that are tried on each strip.
+const PRICES: [u8; 4] = [1, 2, 3, 100];
+
+/// Calls `visit` with every choice of one of these for each strip, the last one
+/// for all of them last.
+fn each_choice(of: [u8; 4], strips: usize, visit: &mut dyn FnMut(&[u8])) {
+    for code in 0..of.len().pow(strips as u32) {
+        let chosen = |strip| of[code / of.len().pow(strip) % of.len()];
+        visit(&(0..strips as u32).map(chosen).collect::<Vec<u8>>());
+    }
+}
+
 /// Calls `visit` with the plate under every choice of a limit for each strip,
 /// none on all of them last.
 pub fn each_limits(plate: &Plate, visit: &mut dyn FnMut(&Plate)) {
-    let strips = plate.strips.len() as u32;
-    for code in 0..LIMITS.len().pow(strips) {
-        let limit = |strip| LIMITS[code / LIMITS.len().pow(strip) % LIMITS.len()];
-        visit(&plate.within(&(0..strips).map(limit).collect::<Vec<u8>>()));
-    }
+    each_choice(LIMITS, plate.strips.len(), &mut |limits| {
+        visit(&plate.within(limits));
+    });
+}
+
+/// Calls `visit` with the plate under every choice of a price for each strip.
+pub fn each_prices(plate: &Plate, visit: &mut dyn FnMut(&Plate)) {
+    each_choice(PRICES, plate.strips.len(), &mut |prices| {
+        visit(&plate.priced(prices));
+    });
 }

@@ -28,11 +28,15 @@ impl Plate {
         place.expect("every dart stands in the order")
     }
 
-    /// A new strip with this limit, where there are limits.
-    fn push_strip(&mut self, ends: [usize; 2], limit: u8) {
+    /// A new strip with this limit, where there are limits, and this price, where
+    /// there are prices.
+    fn push_strip(&mut self, ends: [usize; 2], limit: u8, price: u8) {
         self.strips.push(ends);
         if !self.limits.is_empty() {
             self.limits.push(limit);
+        }
+        if !self.prices.is_empty() {
+            self.prices.push(price);
         }
     }
 
@@ -45,8 +49,9 @@ impl Plate {
         self.order.push(vec![back, new]);
         self.posts += 1;
         self.strips[strip][1] = post;
-        let limit = self.limits.get(strip).copied();
-        self.push_strip([post, end], limit.unwrap_or(255));
+        let of_strip = |rates: &[u8]| rates.get(strip).copied().unwrap_or(0);
+        let (limit, price) = (of_strip(&self.limits), of_strip(&self.prices));
+        self.push_strip([post, end], limit, price);
     }
 
     /// A new strip to a new post, from the corner where `dart` ends.
@@ -55,7 +60,7 @@ impl Plate {
         self.put_in_corner(dart, new);
         self.order.push(vec![twin(new)]);
         self.posts += 1;
-        self.push_strip([self.head(dart), post], 255);
+        self.push_strip([self.head(dart), post], 255, 1);
     }
 
     /// A new strip from the corner where `dart` ends to that where `other` ends.
@@ -63,7 +68,7 @@ impl Plate {
         let new = self.darts();
         self.put_in_corner(dart, new);
         self.put_in_corner(other, twin(new));
-        self.push_strip([self.head(dart), self.head(other)], 255);
+        self.push_strip([self.head(dart), self.head(other)], 255, 1);
     }
 
     /// Whether the strip or the darts of a step are there, darts to be joined
@@ -100,7 +105,7 @@ impl Plate {
     }
 }
 
-/// The plate list after a step: 1 to 15, 23 and 29, then 35, 36 and 37.
+/// The plate list after a step: 1 to 15, 23, 29 and 38, then 35, 36 and 37.
 pub fn list_after(file: &[u8], step: Step) -> Result<List, u8> {
     let list = read_list(file)?;
     let plate = list.plate.after_step(step)?;

@@ -4,10 +4,10 @@
 use plates_tests::cancelling;
 use plates_tests::compare;
 use plates_tests::damage::{changed_once, cut_and_mixed, each_damaged};
-use plates_tests::files::{older_file, read_list, shape_bytes, with_limits};
+use plates_tests::files::{older_file, read_list, shape_bytes, with_limits, with_prices};
 use plates_tests::long_mode;
 use plates_tests::plate::{Plate, Shape};
-use plates_tests::random::{any_plate, list_of, Random};
+use plates_tests::random::{any_plate, list_of, random_prices, Random};
 use plates_tests::remembered::cancel_once;
 
 /// The list of a random plate with at most so many posts, perhaps with strips
@@ -38,8 +38,8 @@ fn how_many() -> u64 {
     }
 }
 
-/// How often each number was met, up to 29.
-type Numbers = [usize; 30];
+/// How often each number was met, up to 39.
+type Numbers = [usize; 40];
 
 fn print_numbers(what: &str, numbers: &Numbers) {
     let total: usize = numbers.iter().sum();
@@ -48,7 +48,7 @@ fn print_numbers(what: &str, numbers: &Numbers) {
 
 #[test]
 fn damaged_lists() {
-    let mut numbers = Numbers::default();
+    let mut numbers = [0; 40];
     for seed in 0..how_many() {
         let mut random = Random::new(2_000_000 + seed);
         let list = random_list(size(seed), &mut random);
@@ -67,7 +67,7 @@ fn damaged_lists() {
 
 #[test]
 fn damaged_shapes() {
-    let mut numbers = Numbers::default();
+    let mut numbers = [0; 40];
     for seed in 0..how_many() {
         let mut random = Random::new(3_000_000 + seed);
         let list = random_list(size(seed), &mut random);
@@ -91,7 +91,7 @@ fn damaged_shapes() {
 /// the list's refusal comes first.
 #[test]
 fn damaged_lists_with_shapes() {
-    let mut numbers = Numbers::default();
+    let mut numbers = [0; 40];
     for seed in 0..how_many() / 4 {
         let mut random = Random::new(4_000_000 + seed);
         let list = random_list(size(seed), &mut random);
@@ -116,7 +116,7 @@ fn damaged_lists_with_shapes() {
 /// doubled and left out.
 #[test]
 fn every_random_plate_damaged() {
-    let mut numbers = Numbers::default();
+    let mut numbers = [0; 40];
     for seed in 0..if long_mode() { 20_000 } else { 40 } {
         let mut random = Random::new(seed);
         let list = random_list(64, &mut random);
@@ -139,14 +139,16 @@ fn every_random_plate_damaged() {
         .for_each(|&number: &usize| assert_ne!(numbers[number], 0, "number {number}"));
 }
 
-/// Every byte of P1 changed to every value, in list and in shape, without limits
-/// and with one bend at most on each strip.
+/// Every byte of P1 changed to every value, in list and in shape, without limits,
+/// with one bend at most on each strip, and with prices.
 #[test]
 fn every_value_of_every_byte() {
     let list = [
         1, 0, 2, 0, 7, 2, 0, 1, 2, 3, 0, 4, 0, 1, 0, 1, 4, 0, 4, 0, 2, 1, 3, 5, 0, 1, 1,
     ];
-    for list in [list.to_vec(), with_limits(&list, &[1, 1])] {
+    let limited = with_limits(&list, &[1, 1]);
+    let both = with_prices(&limited, &[2, 3]);
+    for list in [list.to_vec(), limited, with_prices(&list, &[100, 99]), both] {
         let read = read_list(&list).expect("P1 is accepted");
         let file = shape_bytes(&read, &best_of(&read.plate));
         for value in 0..=255 {
@@ -182,7 +184,7 @@ fn random_bytes() {
 /// shapes against them, of which every other one passes a limit.
 #[test]
 fn damaged_limits() {
-    let mut numbers = [Numbers::default(); 2];
+    let mut numbers = [[0; 40]; 2];
     for seed in 0..how_many() {
         let mut random = Random::new(9_500_000 + seed);
         let mut plate = any_plate(3 + seed as usize % 6, &mut random);
@@ -213,4 +215,44 @@ fn damaged_limits() {
         assert_ne!(numbers[1][number], 0, "number {number}");
     }
     assert_eq!([numbers[0][25], numbers[1][23], numbers[1][24]], [0; 3]);
+}
+
+/// Lists with prices, half of them with limits that their best shapes just keep,
+/// damaged, and damaged shapes against them, of which some pass a limit.
+#[test]
+fn damaged_prices() {
+    let mut numbers = [[0; 40]; 2];
+    for seed in 0..how_many() {
+        let mut random = Random::new(19_000_000 + seed);
+        let plate = any_plate(3 + seed as usize % 6, &mut random);
+        let mut plate = plate.priced(&random_prices(&plate, &mut random));
+        let mut shape = best_of(&plate);
+        if seed % 2 == 0 {
+            plate.limits = shape.by_strip().iter().map(|&bends| bends as u8).collect();
+        }
+        let list = list_of(&plate, &mut random);
+        let read = read_list(&list).expect("the plate is plane");
+        each_damaged(&list, &mut random, &mut |damaged| {
+            numbers[0][usize::from(compare::shaping(damaged, cancel_once))] += 1;
+            compare::listing(damaged, cancel_once);
+        });
+        // A right and a left bend more on strip 0.
+        if seed % 4 == 2 {
+            shape.rights[0] += 1;
+            shape.rights[1] += 1;
+        }
+        let file = older_file(&list, &shape_bytes(&read, &shape));
+        each_damaged(&file, &mut random, &mut |damaged| {
+            numbers[1][usize::from(compare::checking(&list, damaged, cancel_once))] += 1;
+        });
+    }
+    print_numbers("damaged lists with prices", &numbers[0]);
+    print_numbers("damaged shapes with their sum", &numbers[1]);
+    for number in [1, 2, 3, 4, 5, 6, 23, 24, 29, 38] {
+        assert_ne!(numbers[0][number], 0, "number {number}");
+    }
+    for number in (1..=6).chain(17..=22).chain([25, 29, 39]) {
+        assert_ne!(numbers[1][number], 0, "number {number}");
+    }
+    assert_eq!([numbers[0][39], numbers[1][23], numbers[1][38]], [0; 3]);
 }

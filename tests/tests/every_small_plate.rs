@@ -1,5 +1,5 @@
-//! Every plate with few strips, without limits and within them, compared with
-//! the search over all shapes.
+//! Every plate with few strips, without limits and within them, without prices
+//! and with them, compared with the search over all shapes.
 
 use plates_tests::cancelling;
 use plates_tests::certificate::{is_best, none_keeps};
@@ -7,8 +7,9 @@ use plates_tests::compare;
 use plates_tests::files::Solver;
 use plates_tests::files::{list_bytes, read_list, shape_bytes};
 use plates_tests::plate::{twin, Plate, Shape};
+use plates_tests::random::Random;
 use plates_tests::remembered::search_once;
-use plates_tests::small::{each_accepted, each_limits, each_plate, Orders};
+use plates_tests::small::{each_accepted, each_limits, each_plate, each_prices, Orders};
 use plates_tests::{long_mode, search};
 
 /// How many plates were compared, and how many of those accepted have a strip
@@ -95,11 +96,22 @@ fn mixed_words_never_come_first() {
     assert!(compared > 0);
 }
 
+/// Search and cancelling give a plate the same shape, or none, and the
+/// certificates say so too.
+fn methods_agree(plate: &Plate) {
+    let found = cancelling::best_or_cut(plate);
+    match &found {
+        Ok(shape) => assert!(is_best(plate, shape), "{plate:?}"),
+        Err(cut) => assert!(none_keeps(plate, cut), "{plate:?}"),
+    }
+    assert_eq!(search::best(plate), found.ok(), "{plate:?}");
+}
+
 /// The two methods of this package agree with each other, without limits and
-/// within them, where the certificates agree too.
+/// within them, without prices and with them.
 #[test]
 fn search_and_cancelling_agree() {
-    let (mut compared, mut limited) = (0, 0);
+    let (mut compared, mut limited, mut priced) = (0, 0, 0);
     for strips in 1..=3 {
         each_accepted(strips, 1, &mut |plate| {
             assert_eq!(search::best(plate), cancelling::best(plate), "{plate:?}");
@@ -107,18 +119,23 @@ fn search_and_cancelling_agree() {
         });
         each_accepted(strips, share(strips), &mut |plate| {
             each_limits(plate, &mut |plate| {
-                let found = cancelling::best_or_cut(plate);
-                match &found {
-                    Ok(shape) => assert!(is_best(plate, shape), "{plate:?}"),
-                    Err(cut) => assert!(none_keeps(plate, cut), "{plate:?}"),
-                }
-                assert_eq!(search::best(plate), found.ok(), "{plate:?}");
+                methods_agree(plate);
                 limited += 1;
             });
+            each_prices(plate, &mut |plate| {
+                methods_agree(plate);
+                priced += 1;
+            });
+        });
+        each_rated(strips, &mut |plate| {
+            methods_agree(plate);
+            priced += 1;
         });
     }
-    println!("search and cancelling: {compared} plates, {limited} with limits");
-    assert!(compared > 0 && limited > 0);
+    println!(
+        "search and cancelling: {compared} plates, {limited} with limits, {priced} with prices"
+    );
+    assert!(compared > 0 && limited > 0 && priced > 0);
 }
 
 /// Of the plates with three strips every 97th is compared within limits in the
@@ -131,6 +148,26 @@ fn share(strips: usize) -> usize {
     }
 }
 
+/// Calls `visit` with plates under limits and prices together: with one strip
+/// under every choice of them, with two on every seventh plate, in the long mode
+/// on each, and with three under a few choices at random.
+fn each_rated(strips: usize, visit: &mut dyn FnMut(&Plate)) {
+    let share = match strips {
+        2 if !long_mode() => 7,
+        _ => share(strips),
+    };
+    let mut random = Random::new(12);
+    each_accepted(strips, share, &mut |plate| {
+        each_limits(plate, &mut |plate| {
+            each_prices(plate, &mut |plate| {
+                if strips < 3 || random.below(if long_mode() { 512 } else { 64 }) == 0 {
+                    visit(plate);
+                }
+            });
+        });
+    });
+}
+
 /// The shape file that the library writes for a list.
 fn written(list: &[u8]) -> Vec<u8> {
     let mut out = [0; plates::LONGEST_SHAPE];
@@ -138,24 +175,25 @@ fn written(list: &[u8]) -> Vec<u8> {
     out[..shape.length].to_vec()
 }
 
-/// What was met on lists with limits.
+/// What was met on lists with limits or prices.
 #[derive(Debug, Default)]
 struct Within {
     /// Lists with a shape, and how many of these have another one than without
-    /// limits.
+    /// limits and prices.
     shaped: usize,
     other: usize,
     /// Lists without a shape, refused with 24.
     without: usize,
     /// Shapes that pass a limit, refused with 25.
     passed: usize,
-    /// Sound shapes: ours, others with as few bends, others with more.
+    /// Sound shapes: ours, others with the same sum of bends times price, which
+    /// is the total where there are no prices, others with more.
     sound: [usize; 3],
 }
 
 impl Within {
-    /// Compares shaping and listing of a plate with limits. `free` is the best
-    /// shape without them.
+    /// Compares shaping and listing of a plate with limits or prices. `free` is
+    /// the best shape without them.
     fn shaping(&mut self, plate: &Plate, free: &Shape) {
         let list = list_bytes(plate, 0x1234, None);
         match compare::shaping(&list, search_once) {
@@ -169,6 +207,12 @@ impl Within {
         if plate.limits.iter().all(|&limit| limit == 255) {
             let without = list_bytes(&plate.within(&[]), 0x1234, None);
             assert_eq!(written(&list), written(&without), "{}", compare::hex(&list));
+            let same = plate.prices.windows(2).all(|both| both[0] == both[1]);
+            assert!(
+                !same || best.as_ref() == Some(free),
+                "{}",
+                compare::hex(&list)
+            );
         }
     }
 
@@ -181,7 +225,7 @@ impl Within {
             match compare::checking(&list, &shape_bytes(&read, shape), search_once) {
                 0 => {
                     let best = best.as_ref().expect("a sound shape keeps the limits");
-                    let more = usize::from(shape.bends() > best.bends());
+                    let more = usize::from(plate.sum(&shape.rights) > plate.sum(&best.rights));
                     self.sound[usize::from(shape != best) + more] += 1;
                 }
                 25 => self.passed += 1,
@@ -191,11 +235,14 @@ impl Within {
     }
 }
 
-/// Shapes of a plate, each once: the best within each choice of limits, that
-/// without limits with a right and a left bend more on one strip, and any other.
-fn shapes_of(plate: &Plate) -> Vec<Shape> {
+/// Every choice of limits, or of prices, for a plate.
+type Choices = fn(&Plate, &mut dyn FnMut(&Plate));
+
+/// Shapes of a plate, each once: the best under each of these choices, the last
+/// of them with a right and a left bend more on one strip, and any other.
+fn shapes_of(plate: &Plate, each: Choices) -> Vec<Shape> {
     let mut shapes = vec![cancelling::any(plate)];
-    each_limits(plate, &mut |plate| shapes.extend(search_once(plate)));
+    each(plate, &mut |plate| shapes.extend(search_once(plate)));
     let free = shapes[shapes.len() - 1].clone();
     for dart in (0..plate.darts()).step_by(2) {
         let mut both_ways = free.clone();
@@ -216,7 +263,7 @@ fn every_limit_on_small_plates() {
     for strips in 1..=3 {
         each_accepted(strips, share(strips), &mut |plate| {
             let free = search::best(plate).expect("every plate without limits has a shape");
-            let shapes = shapes_of(plate);
+            let shapes = shapes_of(plate, each_limits);
             each_limits(plate, &mut |plate| {
                 within.shaping(plate, &free);
                 within.checking(plate, &shapes);
@@ -244,5 +291,70 @@ fn mixed_words_within_limits() {
         });
     }
     println!("mixed words within limits: {compared} lists");
+    assert!(compared > 0);
+}
+
+/// Request E12: prices 1, 2, 3 and 100 on every strip. The shapes that are best
+/// with some prices are judged with all the others too.
+#[test]
+fn every_price_on_small_plates() {
+    let mut within = Within::default();
+    for strips in 1..=3 {
+        each_accepted(strips, share(strips), &mut |plate| {
+            let free = search::best(plate).expect("every plate without limits has a shape");
+            let shapes = shapes_of(plate, each_prices);
+            each_prices(plate, &mut |plate| {
+                within.shaping(plate, &free);
+                within.checking(plate, &shapes);
+            });
+        });
+        println!("prices on up to {strips} strips: {within:?}");
+    }
+    assert!(within.shaped > within.other && within.other > 0);
+    assert_eq!([within.without, within.passed], [0; 2]);
+    assert!(within.sound.iter().all(|&count| count > 0));
+}
+
+/// Limits 0, 1, 2 and none with prices 1, 2, 3 and 100. The shapes that are best
+/// within limits or with prices are judged too.
+#[test]
+fn limits_and_prices_on_small_plates() {
+    let mut within = Within::default();
+    for strips in 1..=3 {
+        each_rated(strips, &mut |plate| {
+            let bare = plate.within(&[]).priced(&[]);
+            let free = search_once(&bare).expect("every plate without limits has a shape");
+            let priced = search_once(&plate.within(&[]));
+            let limited = search_once(&plate.priced(&[]));
+            let mut shapes: Vec<Shape> = priced.into_iter().chain(limited).collect();
+            shapes.extend([free.clone(), cancelling::any(plate)]);
+            shapes.extend(search_once(plate));
+            shapes.sort_by_key(|shape| (shape.rights.clone(), shape.angles.clone()));
+            shapes.dedup();
+            within.shaping(plate, &free);
+            within.checking(plate, &shapes);
+        });
+        println!("limits and prices on up to {strips} strips: {within:?}");
+    }
+    assert!(within.shaped > within.other && within.other > 0);
+    assert!(within.without > 0 && within.passed > 0);
+    assert!(within.sound.iter().all(|&count| count > 0));
+}
+
+/// With one and two strips the search over mixed words finds no other shape with
+/// prices.
+#[test]
+fn mixed_words_with_prices() {
+    let mut compared = 0;
+    for strips in 1..=2 {
+        each_accepted(strips, 1, &mut |plate| {
+            each_prices(plate, &mut |plate| {
+                let list = list_bytes(plate, 1, None);
+                assert_eq!(compare::shaping_longer(&list, search::best_with_words), 0);
+                compared += 1;
+            });
+        });
+    }
+    println!("mixed words with prices: {compared} lists");
     assert!(compared > 0);
 }

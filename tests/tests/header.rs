@@ -84,6 +84,28 @@ fn c_program_gets_the_limits() {
     assert_eq!(printed_by_c("limits"), expected);
 }
 
+/// P1 with prices 3 and 5 has both bends on dart 0, with 100 and 99 on dart 3. The
+/// first shape is not ours where strip 1 costs 2; its sum is missing, and false
+/// where strip 0 costs 4. With memory one byte short and with prices of 101 and 0
+/// nothing is written.
+#[test]
+fn c_program_gets_the_prices() {
+    let written = "02 00 00 00 16 00 04 00 00 00 06";
+    let expected = format!(
+        "write 0 length 31 bends 2: {written}\n\
+         check 0 total 2 fewest 6 ours 1\n\
+         check 0 total 2 fewest 4 ours 0\n\
+         check 39 total 0 fewest 0 ours 0\n\
+         check 39 total 0 fewest 0 ours 0\n\
+         write 16 length 0 bends 0: {written}\n\
+         write 38 length 0 bends 0: {written}\n\
+         write 38 length 0 bends 0: {written}\n\
+         write 0 length 31 bends 2: 00 00 00 02 16 00 04 00 00 00 c6\n\
+         check 0 total 2 fewest 198 ours 1\n"
+    );
+    assert_eq!(printed_by_c("prices"), expected);
+}
+
 /// Model 7 has revisions 1 and 5, model 9 has 256, and model 8 is not there;
 /// without its last byte the book is refused with 40.
 #[test]

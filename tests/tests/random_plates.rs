@@ -7,7 +7,8 @@ use plates_tests::files::{list_bytes, read_list, shape_bytes, List};
 use plates_tests::long_mode;
 use plates_tests::plate::{twin, Plate, Shape};
 use plates_tests::random::{
-    any_plate, double_ring, list_of, looped_plate, looped_ring, plane_plate, shuffled_plate, Random,
+    any_plate, double_ring, list_of, looped_plate, looped_ring, plane_plate, random_prices,
+    shuffled_plate, Random,
 };
 
 /// How many random plates of each sort are compared.
@@ -110,6 +111,29 @@ fn shuffled_plates() {
 }
 
 /// No cycle of the residual network improves the shape that the library
+/// writes with prices, without limits and within some.
+#[test]
+fn no_cycle_improves_with_prices() {
+    let count = how_many(100, 2_000);
+    let mut limited = 0;
+    for seed in 0..count {
+        let mut random = Random::new(18_000_000 + seed);
+        let most = if seed % 10 == 0 { 64 } else { 12 };
+        let plate = any_plate(most, &mut random);
+        let limits = random_limits(&without_limits(&plate), &mut random);
+        let plate = plate.priced(&random_prices(&plate, &mut random));
+        improved_by_none(&plate);
+        let within = plate.within(&limits);
+        if cancelling::best(&within).is_some() {
+            improved_by_none(&within);
+            limited += 1;
+        }
+    }
+    println!("{count} shapes with prices without an improving cycle, {limited} within limits");
+    assert!(limited > 0);
+}
+
+/// No cycle of the residual network improves the shape that the library
 /// writes, without limits and within some; any other shape is found not to be
 /// the best.
 #[test]
@@ -146,9 +170,10 @@ fn written_shape(list: &[u8], darts: usize) -> Shape {
     let mut out = [0; plates::LONGEST_SHAPE];
     let shape = plates::write_shape(list, &mut out).expect("the list is accepted");
     let numbers = |content: &[u8]| content.iter().map(|&b| u32::from(b)).collect();
+    assert!([16, 23].contains(&(shape.length - 2 * darts)));
     Shape {
         angles: numbers(&out[13..13 + darts]),
-        rights: numbers(&out[shape.length - darts..shape.length]),
+        rights: numbers(&out[16 + darts..16 + 2 * darts]),
     }
 }
 
@@ -163,15 +188,18 @@ fn largest_plates() {
             let step = if long_mode() { 1 } else { 61 };
             for outer in (0..plate.darts()).step_by(step) {
                 plate.outer = outer;
-                for limits in [vec![], vec![255; plate.strips.len()]] {
-                    let list = list_bytes(&plate.within(&limits), 0xffff, Some(&[0x5a; 80]));
+                let limits = vec![255; plate.strips.len()];
+                let prices = random_prices(&plate, &mut random);
+                for (limits, prices) in [(&[][..], &[][..]), (&limits, &[]), (&limits, &prices)] {
+                    let plate = plate.within(limits).priced(prices);
+                    let list = list_bytes(&plate, 0xffff, Some(&[0x5a; 80]));
                     longest = longest.max(list.len());
                     assert_eq!(compare_list(&list, &mut random), 0);
                 }
             }
         }
     }
-    assert_eq!(longest, 745);
+    assert_eq!(longest, 876);
 }
 
 /// Limits on a plate whose best shape without limits is `free`: the same on all
@@ -190,10 +218,11 @@ fn random_limits(free: &Shape, random: &mut Random) -> Vec<u8> {
     bends.map(|bends| limit(bends as usize) as u8).collect()
 }
 
-/// What was met on random lists with limits.
+/// What was met on random lists with limits or prices.
 #[derive(Debug, Default)]
 struct Within {
-    /// Lists with the best shape without limits, with another, and with none.
+    /// Lists with the best shape without limits and prices, with another, and with
+    /// none.
     same: usize,
     other: usize,
     without: usize,
@@ -287,4 +316,36 @@ fn plates_within_limits() {
     let least = count as usize / 10;
     assert!(within.same.min(within.other).min(within.without) > least);
     assert!(within.passed.min(within.not_ours) > least);
+}
+
+/// Request E12: random prices, on every other plate with random limits too. How
+/// many bends there are more for a smaller sum, and the greatest sum.
+#[test]
+fn plates_with_prices() {
+    let count = how_many(300, 10_000);
+    let mut within = Within::default();
+    let (mut more_bends, mut greatest) = (0, 0);
+    for seed in 0..count {
+        let mut random = Random::new(17_000_000 + seed);
+        let most = if seed % 3 == 0 {
+            64
+        } else {
+            2 + random.below(63)
+        };
+        let plate = any_plate(most, &mut random);
+        let free = without_limits(&plate);
+        let mut priced = plate.priced(&random_prices(&plate, &mut random));
+        if seed % 2 == 1 {
+            priced.limits = random_limits(&free, &mut random);
+        }
+        within.compare(&priced, &free, &mut random);
+        let best = without_limits(&priced);
+        more_bends += usize::from(best.bends() > free.bends());
+        greatest = greatest.max(priced.sum(&best.rights));
+    }
+    println!("{count} plates with prices: {within:?}");
+    println!("{more_bends} with more bends for a smaller sum, the greatest {greatest}");
+    let least = count as usize / 10;
+    assert!(within.same.min(within.other).min(within.without) > least);
+    assert!(within.passed.min(within.not_ours).min(more_bends) > least);
 }

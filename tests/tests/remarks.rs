@@ -7,7 +7,7 @@ use plates_tests::damage::{refused_lists, split_fields};
 use plates_tests::files::{file_of, list_bytes, older_file, with_remark};
 use plates_tests::long_mode;
 use plates_tests::plate::{p1, Plate, Shape};
-use plates_tests::random::{any_plate, Random};
+use plates_tests::random::{any_plate, random_prices, Random};
 use plates_tests::remembered::cancel_once;
 use plates_tests::small::each_accepted;
 
@@ -21,7 +21,12 @@ fn remarked(list: &[u8], place: usize, content: &[u8]) -> Vec<u8> {
 
 /// Remarks of no byte, of one, of 80, and of fields.
 fn contents(random: &mut Random) -> Vec<Vec<u8>> {
-    let fields = [&[0x07, 0, 1, 0, 0x15, 0, 0][..], &[0x11, 0, 2, 0, 9]].concat();
+    let fields = [
+        &[0x07, 0, 1, 0, 0x15, 0, 0][..],
+        &[0x11, 0, 2, 0, 9, 0x08, 0, 1, 1],
+        &[0x16, 0, 4, 0, 0, 0, 0],
+    ]
+    .concat();
     let length = 1 + random.below(79);
     vec![
         vec![],
@@ -75,7 +80,8 @@ impl Answers {
 }
 
 /// Every call answers the plate's list with a remark, and its shape file with
-/// one, as without it. What is written has 16 + 4m bytes and four fields.
+/// one, as without it. What is written has 16 + 4m bytes and four fields; with
+/// prices 7 bytes and a field more.
 fn passed_over(plate: &Plate, random: &mut Random) -> usize {
     let list = list_bytes(plate, random.draw() as u16, None);
     let shape = cancel_once(plate).expect("the plate has a shape");
@@ -84,9 +90,10 @@ fn passed_over(plate: &Plate, random: &mut Random) -> usize {
     let bare = Answers::of(&list, &file, text.as_bytes());
     assert_eq!(bare.shape.as_ref(), Ok(&file));
     assert_eq!(bare.file.as_ref(), Ok(&file));
-    assert_eq!(file.len(), 16 + 4 * plate.strips.len());
+    let priced = usize::from(!plate.prices.is_empty());
+    assert_eq!(file.len(), 16 + 4 * plate.strips.len() + 7 * priced);
     let tags: Vec<u8> = split_fields(&file).iter().map(|field| field[0]).collect();
-    assert_eq!(tags, [0x11, 0x12, 0x13, 0x14]);
+    assert_eq!(tags, [0x11, 0x12, 0x13, 0x14, 0x16][..4 + priced]);
     let mut compared = 0;
     for content in contents(random) {
         let list = remarked(&list, 5, &content);
@@ -94,7 +101,12 @@ fn passed_over(plate: &Plate, random: &mut Random) -> usize {
             assert_eq!(Answers::of(&list, file, text.as_bytes()), bare);
             compared += 1;
         }
-        assert_eq!(compare::ordering(&list), Ok(list));
+        let ordered = if priced == 1 {
+            Err(2)
+        } else {
+            Ok(list.clone())
+        };
+        assert_eq!(compare::ordering(&list), ordered);
     }
     compared
 }
@@ -131,12 +143,32 @@ fn random_plates() {
     assert_eq!(compared, 15 * count as usize);
 }
 
+/// Plates of both sorts with prices, half of them with limits too.
+#[test]
+fn random_plates_with_prices() {
+    let count = if long_mode() { 1_500 } else { 50 };
+    let mut compared = 0;
+    for seed in 0..count {
+        let mut random = Random::new(20_000_000 + seed);
+        let size = 3 + random.below(62);
+        let plate = any_plate(size, &mut random);
+        let mut plate = plate.priced(&random_prices(&plate, &mut random));
+        if random.below(2) == 0 {
+            let shape = cancel_once(&plate).expect("the plate has no limits");
+            plate.limits = shape.by_strip().iter().map(|&bends| bends as u8).collect();
+        }
+        compared += passed_over(&plate, &mut random);
+    }
+    println!("{compared} pairs of a list and a file of plates with prices");
+    assert_eq!(compared, 15 * count as usize);
+}
+
 /// A remark anywhere between the fields of refused lists: each content of up to
 /// 80 bytes gives the same number.
 #[test]
 fn refused() {
     let mut random = Random::new(916);
-    let mut numbers = [0usize; 30];
+    let mut numbers = [0usize; 40];
     for (number, list) in refused_lists() {
         // Of those that end within a field there is no place to try.
         if [1, 5].contains(&number) {
@@ -154,8 +186,8 @@ fn refused() {
         }
     }
     println!("places by number {numbers:?}");
-    let met = (0..30).filter(|&number| numbers[number] > 0);
-    let wanted = [2, 3, 4, 6, 7, 8, 9, 11, 12, 13, 14, 15, 23, 29];
+    let met = (0..40).filter(|&number| numbers[number] > 0);
+    let wanted = [2, 3, 4, 6, 7, 8, 9, 11, 12, 13, 14, 15, 23, 29, 38];
     assert_eq!(met.collect::<Vec<usize>>(), wanted);
 }
 

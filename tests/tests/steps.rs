@@ -7,12 +7,12 @@ use plates_tests::damage::{each_damaged, refused_lists, split_fields};
 use plates_tests::files::{list_bytes, read_list};
 use plates_tests::long_mode;
 use plates_tests::plate::{by_number, p1, Plate};
-use plates_tests::random::{any_plate, double_ring, list_of, looped_ring, Random};
+use plates_tests::random::{any_plate, double_ring, list_of, looped_ring, random_prices, Random};
 use plates_tests::small::each_accepted;
 use plates_tests::steps::{begun_as, faces_after, turned_faces, Step};
 
 /// How often each number was met; at 0, how many steps were not refused.
-type Met = [usize; 38];
+type Met = [usize; 40];
 
 /// Prints how often the numbers of steps were met.
 fn say_met(what: &str, met: &Met) {
@@ -53,11 +53,15 @@ fn stands(before: &[u8], step: Step, after: &[u8]) {
     let new = read_list(after).expect("the list is accepted").plate;
     assert!(library_accepts(after), "{}", compare::hex(after));
     let strips = old.strips.len() + 1;
-    let limits = if old.limits.is_empty() { 0 } else { 3 + strips };
-    assert_eq!(after.len(), 19 + 4 * strips + limits);
+    let rated = [(7, &old.limits), (8, &old.prices)].into_iter();
+    let more: Vec<u8> = rated
+        .filter(|(_, r)| !r.is_empty())
+        .map(|(tag, _)| tag)
+        .collect();
+    assert_eq!(after.len(), 19 + 4 * strips + more.len() * (3 + strips));
     let tags: Vec<u8> = split_fields(after).iter().map(|field| field[0]).collect();
     assert_eq!(tags[..5], [1, 2, 3, 4, 5]);
-    assert_eq!(tags[5..], [7][usize::from(old.limits.is_empty())..]);
+    assert_eq!(tags[5..], more);
     let more = usize::from(matches!(step, Step::Join(..)));
     let faces = turned_faces(new.faces());
     assert_eq!(faces.len(), old.faces().len() + more);
@@ -93,8 +97,20 @@ fn limited(plate: &Plate, random: &mut Random) -> Plate {
     plate.within(&plate.strips.iter().map(limit).collect::<Vec<u8>>())
 }
 
-/// Every step on small plates, each plate with limits or without and with its
-/// orders begun anywhere.
+/// The plate with limits or without, with prices or without.
+fn perhaps_rated(plate: &Plate, random: &mut Random) -> Plate {
+    let mut plate = plate.clone();
+    if random.below(2) == 0 {
+        plate = limited(&plate, random);
+    }
+    if random.below(2) == 0 {
+        plate.prices = random_prices(&plate, random);
+    }
+    plate
+}
+
+/// Every step on small plates, each plate with limits or without, with prices or
+/// without, and with its orders begun anywhere.
 #[test]
 fn small_plates() {
     let shares: &[(usize, usize)] = match long_mode() {
@@ -102,14 +118,12 @@ fn small_plates() {
         false => &[(1, 1), (2, 1), (3, 7)],
     };
     let mut random = Random::new(11);
-    let mut met = [0; 38];
+    let mut met = [0; 40];
     let mut plates = 0;
     for &(strips, share) in shares {
         each_accepted(strips, share, &mut |plate| {
-            let mut plate = turned(plate, &mut random);
-            if random.below(2) == 0 {
-                plate = limited(&plate, &mut random);
-            }
+            let plate = turned(plate, &mut random);
+            let plate = perhaps_rated(&plate, &mut random);
             let list = list_of(&plate, &mut random);
             each_step(&plate, &mut |made| {
                 let _ = step(&list, made, &mut met);
@@ -205,18 +219,17 @@ fn replay(mut list: Vec<u8>, steps: usize, random: &mut Random, met: &mut Met) -
 }
 
 /// Journals of hundreds of steps on random plates of both sorts, half of them with
-/// limits, half with a remark.
+/// limits, half with prices, half with a remark.
 #[test]
 fn random_journals() {
     let count = if long_mode() { 1_500 } else { 100 };
-    let (mut met, mut full, mut remarks) = ([0; 38], 0, 0);
+    let (mut met, mut full, mut remarks, mut priced) = ([0; 40], 0, 0, 0);
     for seed in 0..count {
         let mut random = Random::new(21_000_000 + seed);
         let most = [2, 2, 3, 8, 64][random.below(5)];
-        let mut plate = any_plate(most, &mut random);
-        if random.below(2) == 0 {
-            plate = limited(&plate, &mut random);
-        }
+        let plate = any_plate(most, &mut random);
+        let plate = perhaps_rated(&plate, &mut random);
+        priced += usize::from(!plate.prices.is_empty());
         let list = list_of(&plate, &mut random);
         remarks += usize::from(split_fields(&list).iter().any(|field| field[0] == 6));
         let steps = 150 * (1 + random.below(3));
@@ -225,7 +238,7 @@ fn random_journals() {
         full += usize::from(plate.posts == 64);
     }
     say_met(
-        &format!("{count} random journals, {full} to 64 posts"),
+        &format!("{count} random journals, {full} to 64 posts, {priced} with prices"),
         &met,
     );
     assert_eq!(
@@ -233,7 +246,7 @@ fn random_journals() {
         met.iter().sum::<usize>()
     );
     assert!([0, 35, 36, 37].iter().all(|&number| met[number] > 500));
-    assert!(full > 5 && remarks > 5);
+    assert!(full > 5 && remarks > 5 && priced > 5);
 }
 
 /// The list after a step is that of a plate worked out by hand, its orders read
@@ -247,7 +260,7 @@ fn becomes(before: &Plate, made: Step, posts: usize, last: [usize; 2], order: &[
     plate.strips.push(last);
     plate.order = order.iter().map(|around| around.to_vec()).collect();
     let wanted = list_bytes(&plate, 7, None);
-    let after = step(&list_bytes(before, 7, Some(b"Hi")), made, &mut [0; 38]);
+    let after = step(&list_bytes(before, 7, Some(b"Hi")), made, &mut [0; 40]);
     let after = after.expect("the step is made");
     let read = read_list(&after).expect("the list is accepted");
     assert_eq!(begun_as(&read, &wanted), wanted, "{made:?}");
@@ -276,6 +289,33 @@ fn worked_out_by_hand() {
     becomes(&path, Step::Join(1, 3), 3, [0, 0], &to_itself);
 }
 
+/// P1 with limits 8 and 9 and prices 3 and 5, or with one of these fields, after
+/// steps: a split gives both halves the strip's, other new strips have 255 and 1.
+#[test]
+fn limits_and_prices_by_hand() {
+    for (made, limit, price) in [
+        (Step::Split(0), 8, 3),
+        (Step::Split(1), 9, 5),
+        (Step::Hang(0), 255, 1),
+        (Step::Hang(3), 255, 1),
+        (Step::Join(0, 3), 255, 1),
+        (Step::Join(2, 1), 255, 1),
+    ] {
+        let limits = [0x07, 0, 3, 8, 9, limit];
+        let prices = [0x08, 0, 3, 3, 5, price];
+        let limited = p1().within(&[8, 9]);
+        for (plate, wanted) in [
+            (limited.clone(), &[limits][..]),
+            (p1().priced(&[3, 5]), &[prices]),
+            (limited.priced(&[3, 5]), &[limits, prices]),
+        ] {
+            let list = list_bytes(&plate, 7, Some(b"Hi"));
+            let after = step(&list, made, &mut [0; 40]).expect("the step is made");
+            assert_eq!(split_fields(&after)[5..], *wanted, "{made:?}");
+        }
+    }
+}
+
 /// A plate of post 0 joined to so many others.
 fn star(strips: usize) -> Plate {
     let ends: Vec<[usize; 2]> = (1..=strips).map(|post| [0, post]).collect();
@@ -289,12 +329,14 @@ fn path(posts: usize) -> Plate {
 }
 
 /// Each of these steps gets its number, or 0 where it is made, with limits and
-/// without.
+/// without, and with prices.
 fn answers(plate: &Plate, steps: &[(Step, u8)]) {
-    for plate in [plate.clone(), plate.within(&vec![3; plate.strips.len()])] {
+    let limited = plate.within(&vec![3; plate.strips.len()]);
+    let priced = limited.priced(&vec![100; plate.strips.len()]);
+    for plate in [plate.clone(), limited, priced] {
         let list = list_bytes(&plate, 7, None);
         for &(made, number) in steps {
-            let given = step(&list, made, &mut [0; 38]);
+            let given = step(&list, made, &mut [0; 40]);
             assert_eq!(given.err().unwrap_or(0), number, "{made:?} on {plate:?}");
         }
     }
@@ -386,23 +428,30 @@ fn full_plate(plate: &Plate, random: &mut Random, met: &mut Met) {
 #[test]
 fn full_plates() {
     let mut random = Random::new(64);
-    let mut met = [0; 38];
+    let mut met = [0; 40];
     for plate in [double_ring(64), looped_ring(64)] {
         full_plate(&plate, &mut random, &mut met);
         full_plate(&limited(&plate, &mut random), &mut random, &mut met);
+        let priced = plate.priced(&random_prices(&plate, &mut random));
+        full_plate(&priced, &mut random, &mut met);
     }
     say_met("full plates", &met);
     assert_eq!(met[0] + met[37], 0);
 }
 
-/// A journal from one post with one strip, with a limit or without, to 64 posts
-/// and 128 strips: 63 splits make a ring, and each of 64 joins goes beside the
-/// next strip of it. Splits and hangs are refused once there are 64 posts.
+/// A journal from one post with one strip, with a limit and a price or without, to
+/// 64 posts and 128 strips: 63 splits make a ring, and each of 64 joins goes beside
+/// the next strip of it. Splits and hangs are refused once there are 64 posts.
 #[test]
 fn journal_to_a_full_plate() {
-    for (limits, length) in [(&[][..], 531), (&[9], plates::LONGEST_STEPPED_LIST)] {
-        let mut met = [0; 38];
-        let own = by_number(1, &[[0, 0]], 1).within(limits);
+    for (limits, prices, length) in [
+        (&[][..], &[][..], 531),
+        (&[9], &[], 662),
+        (&[], &[7], 662),
+        (&[9], &[7], plates::LONGEST_STEPPED_LIST),
+    ] {
+        let mut met = [0; 40];
+        let own = by_number(1, &[[0, 0]], 1).within(limits).priced(prices);
         let mut list = list_bytes(&own, 7, Some(b"own"));
         for strip in 0..63 {
             list = step(&list, Step::Split(strip), &mut met).expect("up to 64 posts");
@@ -422,6 +471,8 @@ fn journal_to_a_full_plate() {
         assert_eq!(ring.strips, plate.strips[..64]);
         let wanted = [vec![9; 64 * limits.len()], vec![255; 64 * limits.len()]].concat();
         assert_eq!(plate.limits, wanted);
+        let wanted = [vec![7; 64 * prices.len()], vec![1; 64 * prices.len()]].concat();
+        assert_eq!(plate.prices, wanted);
         full_plate(&plate, &mut Random::new(9), &mut met);
     }
 }
@@ -429,7 +480,7 @@ fn journal_to_a_full_plate() {
 /// Strips and darts with numbers as large as there are: 35 for each.
 #[test]
 fn far_numbers() {
-    let mut met = [0; 38];
+    let mut met = [0; 40];
     for plate in [p1(), path(64), double_ring(64)] {
         let list = list_bytes(&plate, 7, None);
         for far in FAR {
@@ -456,7 +507,9 @@ fn far_numbers() {
 #[test]
 fn memory() {
     let mut met = [0; 2];
-    for plate in [p1(), p1().within(&[1, 2]), star(4)] {
+    let limited = p1().within(&[1, 2]);
+    let priced = [p1().priced(&[3, 5]), limited.priced(&[100, 1])];
+    for plate in [p1(), limited, star(4)].into_iter().chain(priced) {
         let list = list_bytes(&plate, 7, Some(b"Hi"));
         for made in [Step::Split(1), Step::Hang(2), Step::Join(0, 3)] {
             let number = plate.after_step(made).err();
@@ -500,21 +553,24 @@ fn refused() {
         let far = usize::MAX;
         let all = [Step::Split(far), Step::Hang(far), Step::Join(far, far)];
         for made in three_steps(&mut random).into_iter().chain(all) {
-            assert_eq!(step(&list, made, &mut [0; 38]), Err(number), "{made:?}");
+            assert_eq!(step(&list, made, &mut [0; 40]), Err(number), "{made:?}");
         }
     }
 }
 
-/// Damaged lists of random plates, half of them with limits: all three calls give
-/// the list's number, or a step on what is still accepted.
+/// Damaged lists of random plates, half of them with limits, half with prices: all
+/// three calls give the list's number, or a step on what is still accepted.
 #[test]
 fn damaged_lists() {
-    let mut numbers = [[0; 38]; 3];
+    let mut numbers = [[0; 40]; 3];
     for seed in 0..if long_mode() { 600 } else { 40 } {
         let mut random = Random::new(22_000_000 + seed);
         let mut plate = any_plate(3 + seed as usize % 8, &mut random);
         if seed % 2 == 0 {
             plate = limited(&plate, &mut random);
+        }
+        if seed % 4 < 2 {
+            plate.prices = random_prices(&plate, &mut random);
         }
         let list = list_of(&plate, &mut random);
         let mut other = Random::new(seed);
@@ -528,7 +584,7 @@ fn damaged_lists() {
     }
     for (name, met) in ["split", "hang", "join"].iter().zip(&numbers) {
         println!("damaged lists, {name}: by number {met:?}");
-        for number in (0..=15).chain([23, 29, 35]) {
+        for number in (0..=15).chain([23, 29, 35, 38]) {
             assert_eq!(met[number] == 0, number == 10, "{name} {number}");
         }
     }

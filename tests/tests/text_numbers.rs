@@ -3,21 +3,24 @@
 
 use plates_tests::compare;
 use plates_tests::damage::refused_lists;
-use plates_tests::files::{file_of, list_bytes, with_limits};
+use plates_tests::files::{file_of, list_bytes, with_limits, with_sum};
 use plates_tests::long_mode;
 use plates_tests::near::Near;
 use plates_tests::plate::{p1, twin, Plate, Shape};
-use plates_tests::random::{any_plate, Random};
+use plates_tests::random::{any_plate, random_prices, Random};
 use plates_tests::remembered::cancel_once;
 use plates_tests::round_trip::Met;
 use plates_tests::text_damage::{items_of, joined, Items};
 use plates_tests::texts::text_of;
 
 /// The numbers of a plate list.
-const OF_LISTS: [u8; 16] = [1, 2, 3, 4, 5, 6, 7, 8, 9, 11, 12, 13, 14, 15, 23, 29];
+const OF_LISTS: [u8; 17] = [1, 2, 3, 4, 5, 6, 7, 8, 9, 11, 12, 13, 14, 15, 23, 29, 38];
 
 /// The numbers of a shape file in the check.
-const OF_FILES: [u8; 14] = [1, 2, 3, 29, 4, 5, 6, 17, 18, 19, 20, 21, 22, 25];
+const OF_FILES: [u8; 15] = [1, 2, 3, 29, 4, 5, 6, 17, 18, 19, 20, 21, 22, 25, 39];
+
+/// The numbers of the check that a shape's counts give, then 31, in their order.
+const OF_COUNTS: [u8; 6] = [20, 21, 22, 25, 39, 31];
 
 /// The numbers of a text, in their order.
 const OF_TEXTS: [u8; 6] = [30, 31, 32, 20, 21, 25];
@@ -44,10 +47,12 @@ fn p1_refused() -> Vec<(u8, Vec<u8>)> {
     vec![
         (0, file.clone()),
         (1, [&file[..], &[0x15]].concat()),
-        (2, [&file[..], &[0x16, 0, 0]].concat()),
+        (2, [&file[..], &[0x17, 0, 0]].concat()),
         (3, [&file[..5], &file[..]].concat()),
         (29, [&file[5..10], &file[..5], &file[10..]].concat()),
         (4, [&file[..], &[0x15, 0, 81], &[0; 81]].concat()),
+        (4, with_sum(&file, &[0, 0, 2])),
+        (39, with_sum(&file, &[0, 0, 0, 2])),
         (5, file[..23].to_vec()),
         (6, file[..17].to_vec()),
         (17, [&file[..17], &[0x14, 0, 3, 0, 0, 0]].concat()),
@@ -250,9 +255,12 @@ fn fault_30(lines: &Items, random: &mut Random) -> String {
 
 /// A text with each of these faults, and the list that it is held against.
 fn text_with(wanted: &[u8], random: &mut Random) -> (Vec<u8>, String) {
-    let (plate, mut shape) = bent_plate(random);
-    let limits = with_faults(&plate, &mut shape, wanted, random);
-    let list = list_bytes(&plate.within(&limits), 7, None);
+    let (mut plate, mut shape) = bent_plate(random);
+    plate.limits = with_faults(&plate, &mut shape, wanted, random);
+    if random.below(2) == 0 {
+        plate.prices = random_prices(&plate, random);
+    }
+    let list = list_bytes(&plate, 7, None);
     let mut lines = items_of(&text_of(&plate, &shape));
     if wanted.contains(&32) {
         fault_32(&mut lines, random);
@@ -284,4 +292,70 @@ fn order_of_the_numbers() {
     }
     println!("order of the numbers: {:?}", met.back);
     met.assert_met(&[0, 16], &[&OF_TEXTS[..], &[0, 16]].concat());
+}
+
+/// A right and a left bend more on the strip with the fewest.
+fn bend_both_ways(shape: &mut Shape) {
+    let strips = 0..shape.rights.len() / 2;
+    let fewest = strips.min_by_key(|strip| shape.by_strip()[*strip]);
+    let dart = 2 * fewest.expect("a plate has a strip");
+    shape.rights[dart] += 1;
+    shape.rights[twin(dart)] += 1;
+}
+
+/// A file without its sum, or with one that is false.
+fn false_sum(file: &[u8], random: &mut Random) -> Vec<u8> {
+    let mut file = file.to_vec();
+    let place = file.len() - 1 - random.below(4);
+    match random.below(3) {
+        0 => file.truncate(file.len() - 7),
+        1 => file[place] ^= 1 << random.below(8),
+        _ => file[place] = file[place].wrapping_add(1),
+    }
+    file
+}
+
+/// A shape file with each of these faults, and its list, with prices or, where the
+/// sum is there though the list has none, without them.
+fn file_with(wanted: &[u8], random: &mut Random) -> (Vec<u8>, Vec<u8>) {
+    let (mut plate, mut shape) = bent_plate(random);
+    if wanted.contains(&31) {
+        bend_both_ways(&mut shape);
+    }
+    plate.limits = with_faults(&plate, &mut shape, wanted, random);
+    let priced = plate.priced(&random_prices(&plate, random));
+    let mut list = list_bytes(&priced, 7, None);
+    let mut file = file_of(&list, &shape);
+    if wanted.contains(&22) {
+        file[8 + random.below(2)] ^= 1 << random.below(8);
+    }
+    if wanted.contains(&39) {
+        match random.below(4) {
+            0 => list = list_bytes(&plate, 7, None),
+            _ => file = false_sum(&file, random),
+        }
+    }
+    (list, file)
+}
+
+/// Shape files with every choice of faults, to text and in the check: the number
+/// is that of the first fault in the order of the numbers.
+#[test]
+fn order_of_the_counts() {
+    let mut random = Random::new(39);
+    let mut met = Met::default();
+    for _ in 0..if long_mode() { 2_000 } else { 100 } {
+        for choice in 0..1 << OF_COUNTS.len() {
+            let chosen = (0..OF_COUNTS.len()).filter(|place| choice >> place & 1 == 1);
+            let wanted: Vec<u8> = chosen.map(|place| OF_COUNTS[place]).collect();
+            let (list, file) = file_with(&wanted, &mut random);
+            let first = wanted.first().copied().unwrap_or(0);
+            let hex = compare::hex(&file);
+            assert_eq!(met.file(&list, &file), first, "{wanted:?}: {hex}");
+            let of_check = if first == 31 { 0 } else { first };
+            assert_eq!(compare::checking(&list, &file, cancel_once), of_check);
+        }
+    }
+    println!("order of the counts: {:?}", met.to);
+    met.assert_met(&[&OF_COUNTS[..], &[0, 16]].concat(), &[0, 16]);
 }

@@ -4,11 +4,13 @@
 
 use plates_tests::compare;
 use plates_tests::damage::each_damaged;
-use plates_tests::files::{list_bytes, older_file, read_list, shape_bytes, with_remark, List};
+use plates_tests::files::{
+    list_bytes, older_file, read_list, shape_bytes, with_remark, with_sum, List,
+};
 use plates_tests::long_mode;
 use plates_tests::near::Near;
 use plates_tests::plate::{by_number, twin, Plate, Shape};
-use plates_tests::random::{any_plate, double_ring, list_of, looped_ring, Random};
+use plates_tests::random::{any_plate, double_ring, list_of, looped_ring, random_prices, Random};
 use plates_tests::remembered::cancel_once;
 use plates_tests::round_trip::Met;
 use plates_tests::search::each_shape;
@@ -43,14 +45,16 @@ fn each_of_two_triples(visit: &mut dyn FnMut(&str)) {
 }
 
 /// Every plate with one strip, between two posts or from a post to itself,
-/// without limits and within some.
+/// without limits and within some, and with a price.
 #[test]
 fn every_text_of_one_strip() {
     let mut met = Met::default();
     let mut lists = 0;
     each_accepted(1, 1, &mut |plate| {
-        for limits in [&[][..], &[0], &[1], &[3]] {
-            let list = list_bytes(&plate.within(limits), 7, None);
+        let within = |limits: &[u8]| plate.within(limits);
+        let [free, none, one, three] = [&[][..], &[0], &[1], &[3]].map(within);
+        for plate in [free, none, one, three.clone(), three.priced(&[7])] {
+            let list = list_bytes(&plate, 7, None);
             each_of_two_triples(&mut |text| {
                 met.text(&list, text.as_bytes());
             });
@@ -62,7 +66,7 @@ fn every_text_of_one_strip() {
 }
 
 /// The file of every shape with so few bends, against the plate without limits
-/// and, where `within` says so, under every choice of small ones.
+/// and, where `within` says so, under every choice of small ones and with prices.
 fn every_shape(plate: &Plate, bends: u32, within: bool, met: &mut Met) {
     let list = list_bytes(plate, 7, None);
     let read = read_list(&list).expect("the plate is accepted");
@@ -81,6 +85,21 @@ fn every_shape(plate: &Plate, bends: u32, within: bool, met: &mut Met) {
             for file in &files {
                 met.file(&list, file);
             }
+        });
+        every_shape_with_prices(plate, bends, met);
+    }
+}
+
+/// The same with prices 3, 1 and 100: the file has its sum, or none, which is 39.
+fn every_shape_with_prices(plate: &Plate, bends: u32, met: &mut Met) {
+    let plate = plate.priced(&[3, 1, 100][..plate.strips.len()]);
+    let list = list_bytes(&plate, 7, None);
+    let read = read_list(&list).expect("the plate is accepted");
+    for total in 0..=bends {
+        each_shape(&plate, total, &mut |shape| {
+            let file = shape_bytes(&read, shape);
+            met.file(&list, &file);
+            assert_eq!(met.file(&list, &file[..file.len() - 7]), 39);
         });
     }
 }
@@ -101,7 +120,7 @@ fn every_shape_of_small_plates() {
             plates += 1;
         });
         println!("{strips} strips, up to {bends} bends: {plates} plates, {met:?}");
-        met.assert_met(&[0, 16, 25, 31], &[0, 16]);
+        met.assert_met(&[0, 16, 25, 31, 39], &[0, 16]);
     }
 }
 
@@ -155,6 +174,15 @@ fn random_case(most: usize, random: &mut Random) -> Case {
     Case { list, read, shape }
 }
 
+/// The same with random prices.
+fn priced_case(most: usize, random: &mut Random) -> Case {
+    let case = random_case(most, random);
+    let plate = &case.read.plate;
+    let list = list_of(&plate.priced(&random_prices(plate, random)), random);
+    let read = read_list(&list).expect("the plate is plane");
+    Case { list, read, ..case }
+}
+
 /// The file that the library writes, if some shape keeps the limits, goes to
 /// text and back byte for byte.
 fn own_file(list: &[u8], met: &mut Met) -> bool {
@@ -192,7 +220,8 @@ fn near_files(case: &Case, random: &mut Random, met: &mut Met) -> usize {
 }
 
 /// Files of the shape: as it is, with a remark, with a strip bent both ways, and
-/// with a count, an angle, the total or the revision changed.
+/// with a count, an angle, the total or the revision changed; with prices also
+/// those with the sum changed or left out, without them one with a sum.
 fn files_of(case: &Case, random: &mut Random) -> Vec<Vec<u8>> {
     let darts = case.read.plate.darts();
     let sound = shape_bytes(&case.read, &case.shape);
@@ -216,6 +245,14 @@ fn files_of(case: &Case, random: &mut Random) -> Vec<Vec<u8>> {
         let mut file = sound.clone();
         file[place] ^= 1 << random.below(8);
         files.push(file);
+    }
+    if case.read.plate.prices.is_empty() {
+        files.push(with_sum(&sound, &case.shape.bends().to_be_bytes()));
+    } else {
+        let mut file = sound.clone();
+        file[sound.len() - 1 - random.below(4)] ^= 1 << random.below(8);
+        files.push(file);
+        files.push(sound[..sound.len() - 7].to_vec());
     }
     files.push(sound);
     files
@@ -253,16 +290,15 @@ fn damaged_twice(text: &str, other: &str, random: &mut Random) -> Vec<u8> {
     }
 }
 
-#[test]
-fn random_plates() {
-    let count = how_many(500, 10_000);
+/// Compares so many random plates that `made` makes from the seeds after `first`.
+fn compare_plates(what: &str, count: usize, first: u64, made: fn(usize, &mut Random) -> Case) {
     let mut met = Met::default();
     let mut other = "0 - 4 1 - 4\n".to_string();
     let (mut most, mut own, mut near) = ([0; 2], 0, 0);
     for seed in 0..count {
-        let mut random = Random::new(11_000_000 + seed as u64);
+        let mut random = Random::new(first + seed as u64);
         let size = [64, 4, 8, 2 + random.below(63)][seed % 4];
-        let case = random_case(size, &mut random);
+        let case = made(size, &mut random);
         let plate = &case.read.plate;
         most = [most[0].max(plate.posts), most[1].max(plate.strips.len())];
         own += usize::from(own_file(&case.list, &mut met));
@@ -270,24 +306,35 @@ fn random_plates() {
         compare_case(&case, &other, 40, &mut random, &mut met);
         other = text_of(plate, &case.shape);
     }
-    println!("{count} random plates, up to {most:?} posts and strips");
+    println!("{count} {what}, up to {most:?} posts and strips");
     println!("{own} own files, {near} of other shapes near them: {met:?}");
     assert_eq!(most, [64, 128]);
     assert!(own > count / 2 && near > count);
     met.assert_met(
-        &[0, 16, 18, 19, 20, 21, 22, 25, 31],
+        &[0, 16, 18, 19, 20, 21, 22, 25, 31, 39],
         &[0, 16, 20, 21, 25, 30, 31, 32],
     );
 }
 
-/// Damaged lists with a sound file and a sound text, damaged files, and texts
-/// with each byte changed.
 #[test]
-fn damaged_lists_and_files() {
+fn random_plates() {
+    let count = how_many(500, 10_000);
+    compare_plates("random plates", count, 11_000_000, random_case);
+}
+
+#[test]
+fn random_plates_with_prices() {
+    let count = how_many(250, 5_000);
+    compare_plates("random plates with prices", count, 13_000_000, priced_case);
+}
+
+/// Damaged lists with a sound file and a sound text, damaged files, and texts
+/// with each byte changed, of so many plates that `made` makes. What was met.
+fn compare_damaged(count: usize, first: u64, made: fn(usize, &mut Random) -> Case) -> Met {
     let mut met = Met::default();
-    for seed in 0..how_many(60, 1_000) {
-        let mut random = Random::new(12_000_000 + seed as u64);
-        let case = random_case(3 + seed % 5, &mut random);
+    for seed in 0..count {
+        let mut random = Random::new(first + seed as u64);
+        let case = made(3 + seed % 5, &mut random);
         let file = older_file(&case.list, &shape_bytes(&case.read, &case.shape));
         let text = text_of(&case.read.plate, &case.shape);
         each_damaged(&case.list, &mut random, &mut |list| {
@@ -307,6 +354,19 @@ fn damaged_lists_and_files() {
         assert!(met.back.contains_key(number), "back {number}");
     }
     assert!(!met.to.contains_key(&10) && !met.back.contains_key(&10));
+    met
+}
+
+#[test]
+fn damaged_lists_and_files() {
+    compare_damaged(how_many(60, 1_000), 12_000_000, random_case);
+}
+
+#[test]
+fn damaged_lists_and_files_with_prices() {
+    let met = compare_damaged(how_many(30, 500), 14_000_000, priced_case);
+    assert!(met.to.contains_key(&38) && met.to.contains_key(&39));
+    assert!(met.back.contains_key(&38) && !met.back.contains_key(&39));
 }
 
 /// Words about as long as they can be on the largest plates: no text is longer
