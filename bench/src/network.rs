@@ -28,12 +28,19 @@ pub fn network(plate: &Plate) -> Network {
             .for_each(|&d| face_of[d] = supplies.len() as i32);
         supplies.push(plate.turns_due(face) as i32 - 2 * face.len() as i32);
     }
+    let costs = Costs::of(plate);
     let most = |d| plate.limit(d).map_or(-1, |limit| limit as i32);
-    let bends = (0..darts).map(|d| (face_of[d], face_of[twin(d)], 0, most(d), BEND));
+    let bends = (0..darts).map(|d| {
+        let cost = plate.price(d) as i32 * costs.price + costs.bend;
+        (face_of[d], face_of[twin(d)], 0, most(d), cost)
+    });
     let corners = (0..darts).flat_map(|d| {
         let (post, face) = (plate.head(d) as i32, face_of[d]);
         let (most, over) = if plate.at_joint(d) { (2, 1) } else { (4, 0) };
-        [(post, face, 1, most, 0), (post, face, 0, over, 1)]
+        [
+            (post, face, 1, most, 0),
+            (post, face, 0, over, costs.corner),
+        ]
     });
     let arcs: Vec<(i32, i32, i32, i32, i32)> = bends.chain(corners).collect();
     Network {
@@ -46,8 +53,30 @@ pub fn network(plate: &Plate) -> Network {
     }
 }
 
-/// What a bend costs: more than all posts cornered.
-const BEND: i32 = 65;
+/// What a bend costs for each unit of its price, a cornered post, and each bend
+/// once more: each more than all that comes behind it.
+struct Costs {
+    price: i32,
+    corner: i32,
+    bend: i32,
+}
+
+impl Costs {
+    /// Without prices there are at most 64 cornered posts behind the bends; with
+    /// them also the number of bends, less than 1,024 here.
+    fn of(plate: &Plate) -> Costs {
+        let (price, corner, bend) = if plate.prices.is_empty() {
+            (65, 1, 0)
+        } else {
+            (66 * 1024, 1024, 1)
+        };
+        Costs {
+            price,
+            corner,
+            bend,
+        }
+    }
+}
 
 /// The flow of a shape, and its cost.
 pub fn flow_of(plate: &Plate, shape: &Shape) -> (Vec<i32>, i32) {
@@ -60,6 +89,9 @@ pub fn flow_of(plate: &Plate, shape: &Shape) -> (Vec<i32>, i32) {
         };
         [low as i32, (angle - low) as i32]
     });
-    let cost = BEND * shape.bends() as i32 + plate.cornered(&shape.angles) as i32;
+    let costs = Costs::of(plate);
+    let cost = costs.price * plate.sum(&shape.rights) as i32
+        + costs.corner * plate.cornered(&shape.angles) as i32
+        + costs.bend * shape.bends() as i32;
     (rights.chain(angles).collect(), cost)
 }

@@ -23,6 +23,9 @@ const SEEDS: [u64; 3] = [207, 800, 1782];
 /// none of them has a shape.
 const LIMIT: u8 = 2;
 
+/// The prices of bends of the strips of the same plates, in turn.
+const PRICES: [u8; 5] = [1, 4, 2, 7, 3];
+
 /// Seeds of plates among the slowest of those with 50 posts or more of the seeds
 /// below 20,000: before corners were counted, and since.
 const SLOW: [u64; 2] = [11552, 19216];
@@ -46,6 +49,12 @@ pub fn all() -> Vec<Named> {
         let plate = plane_plate(64, &mut Random::new(seed));
         let limits = vec![LIMIT; plate.strips.len()];
         all.push(named("limited", number, plate.within(&limits)));
+    }
+    for (number, seed) in (1..).zip(SEEDS) {
+        let plate = plane_plate(64, &mut Random::new(seed));
+        let strips = 0..plate.strips.len();
+        let prices: Vec<u8> = strips.map(|strip| PRICES[strip % PRICES.len()]).collect();
+        all.push(named("priced", number, plate.priced(&prices)));
     }
     for seed in SLOW {
         let plate = plane_plate(64, &mut Random::new(seed));
@@ -105,6 +114,7 @@ fn grid(side: usize) -> Plate {
         strips,
         outer: 1,
         limits: Vec::new(),
+        prices: Vec::new(),
     }
 }
 
@@ -125,6 +135,7 @@ fn tree(posts: usize, below: usize) -> Plate {
         order,
         outer: 0,
         limits: Vec::new(),
+        prices: Vec::new(),
     }
 }
 

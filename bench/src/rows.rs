@@ -37,12 +37,12 @@ pub fn written(list: &[u8]) -> (Vec<u8>, u32) {
     (out[..shape.length].to_vec(), shape.bends)
 }
 
-/// Angles and right bends of a shape file without remark.
+/// Angles and right bends of a written shape file.
 fn shape_in(file: &[u8], darts: usize) -> Shape {
     let numbers = |content: &[u8]| content.iter().map(|&b| u32::from(b)).collect();
     Shape {
         angles: numbers(&file[13..13 + darts]),
-        rights: numbers(&file[file.len() - darts..]),
+        rights: numbers(&file[16 + darts..16 + 2 * darts]),
     }
 }
 
@@ -51,9 +51,11 @@ fn compare(named: &Named, file: &[u8], bends: u32) {
     let expected = shape_of(&named.list, cancelling::best);
     assert_eq!(expected, Ok((file.to_vec(), bends)), "{}", named.name);
     let verdict = plates::check_shape(&named.list, file).expect("the shape is sound");
+    let shape = shape_in(file, named.plate.darts());
     let totals = (verdict.total, verdict.fewest, verdict.ours);
-    assert_eq!(totals, (bends, bends, true), "{}", named.name);
-    let (flow, cost) = flow_of(&named.plate, &shape_in(file, named.plate.darts()));
+    let sum = named.plate.sum(&shape.rights);
+    assert_eq!(totals, (bends, sum, true), "{}", named.name);
+    let (flow, cost) = flow_of(&named.plate, &shape);
     lemon::compare(&network(&named.plate), cost, &flow);
 }
 
