@@ -1,6 +1,7 @@
 //! Calls of the library against the independent implementation. A difference
 //! panics with the bytes in hexadecimal.
 
+use crate::cancelling;
 use crate::files::{in_order, listing_of, shape_of, verdict_of, Solver, Verdict};
 use crate::steps::{begun_as, list_after, Step};
 use crate::texts::{file_to_text, text_to_file};
@@ -104,6 +105,17 @@ fn borrowed(expected: &Result<(Vec<u8>, u32), u8>) -> Result<(&[u8], u32), u8> {
         Ok((file, bends)) => Ok((file, *bends)),
         Err(number) => Err(*number),
     }
+}
+
+/// The number of shaping, the same for all lengths of lent memory.
+pub fn refused(list: &[u8]) -> u8 {
+    let none = plates::write_shape(list, &mut []).map_or_else(plates::Refusal::number, |_| 0);
+    let number = shaping(list, cancelling::best);
+    let mut out = [0; plates::LONGEST_SHAPE];
+    let most = plates::write_shape(list, &mut out).map_or_else(plates::Refusal::number, |_| 0);
+    assert_eq!(most, number);
+    assert_eq!(none, if number == 0 { 16 } else { number });
+    number
 }
 
 /// Compares the verdict on a shape file. Gives its number, or 0.

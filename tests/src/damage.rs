@@ -46,6 +46,15 @@ pub fn cut_and_mixed(file: &[u8], visit: &mut dyn FnMut(&[u8])) {
     }
 }
 
+/// The file with these bytes at these places.
+pub fn with_bytes(file: &[u8], bytes: &[(usize, u8)]) -> Vec<u8> {
+    let mut changed = file.to_vec();
+    for &(place, byte) in bytes {
+        changed[place] = byte;
+    }
+    changed
+}
+
 /// Each byte changed to one other value.
 pub fn changed_once(file: &[u8], random: &mut Random, visit: &mut dyn FnMut(&[u8])) {
     let mut damaged = file.to_vec();

@@ -180,6 +180,32 @@ fn random_bytes() {
     }
 }
 
+/// Counts the numbers of the damaged list of a plate, and of the damaged file of
+/// a shape against it, which has a right and a left bend more on strip 0 where
+/// it shall pass a limit.
+fn damage_both(
+    plate: &Plate,
+    mut shape: Shape,
+    passes: bool,
+    random: &mut Random,
+    numbers: &mut [Numbers; 2],
+) {
+    let list = list_of(plate, random);
+    let read = read_list(&list).expect("the plate is plane");
+    each_damaged(&list, random, &mut |damaged| {
+        numbers[0][usize::from(compare::shaping(damaged, cancel_once))] += 1;
+        compare::listing(damaged, cancel_once);
+    });
+    if passes {
+        shape.rights[0] += 1;
+        shape.rights[1] += 1;
+    }
+    let file = older_file(&list, &shape_bytes(&read, &shape));
+    each_damaged(&file, random, &mut |damaged| {
+        numbers[1][usize::from(compare::checking(&list, damaged, cancel_once))] += 1;
+    });
+}
+
 /// Lists with limits that their best shapes just keep, damaged, and damaged
 /// shapes against them, of which every other one passes a limit.
 #[test]
@@ -188,23 +214,10 @@ fn damaged_limits() {
     for seed in 0..how_many() {
         let mut random = Random::new(9_500_000 + seed);
         let mut plate = any_plate(3 + seed as usize % 6, &mut random);
-        let mut shape = best_of(&plate);
+        let shape = best_of(&plate);
         plate.limits = shape.by_strip().iter().map(|&bends| bends as u8).collect();
-        let list = list_of(&plate, &mut random);
-        let read = read_list(&list).expect("the plate is plane");
-        each_damaged(&list, &mut random, &mut |damaged| {
-            numbers[0][usize::from(compare::shaping(damaged, cancel_once))] += 1;
-            compare::listing(damaged, cancel_once);
-        });
-        // A right and a left bend more on strip 0.
-        if seed % 2 == 1 {
-            shape.rights[0] += 1;
-            shape.rights[1] += 1;
-        }
-        let file = older_file(&list, &shape_bytes(&read, &shape));
-        each_damaged(&file, &mut random, &mut |damaged| {
-            numbers[1][usize::from(compare::checking(&list, damaged, cancel_once))] += 1;
-        });
+        let passes = seed % 2 == 1;
+        damage_both(&plate, shape, passes, &mut random, &mut numbers);
     }
     print_numbers("damaged lists with limits", &numbers[0]);
     print_numbers("damaged shapes against limits", &numbers[1]);
@@ -226,25 +239,12 @@ fn damaged_prices() {
         let mut random = Random::new(19_000_000 + seed);
         let plate = any_plate(3 + seed as usize % 6, &mut random);
         let mut plate = plate.priced(&random_prices(&plate, &mut random));
-        let mut shape = best_of(&plate);
+        let shape = best_of(&plate);
         if seed % 2 == 0 {
             plate.limits = shape.by_strip().iter().map(|&bends| bends as u8).collect();
         }
-        let list = list_of(&plate, &mut random);
-        let read = read_list(&list).expect("the plate is plane");
-        each_damaged(&list, &mut random, &mut |damaged| {
-            numbers[0][usize::from(compare::shaping(damaged, cancel_once))] += 1;
-            compare::listing(damaged, cancel_once);
-        });
-        // A right and a left bend more on strip 0.
-        if seed % 4 == 2 {
-            shape.rights[0] += 1;
-            shape.rights[1] += 1;
-        }
-        let file = older_file(&list, &shape_bytes(&read, &shape));
-        each_damaged(&file, &mut random, &mut |damaged| {
-            numbers[1][usize::from(compare::checking(&list, damaged, cancel_once))] += 1;
-        });
+        let passes = seed % 4 == 2;
+        damage_both(&plate, shape, passes, &mut random, &mut numbers);
     }
     print_numbers("damaged lists with prices", &numbers[0]);
     print_numbers("damaged shapes with their sum", &numbers[1]);

@@ -255,22 +255,45 @@ fn shapes_of(plate: &Plate, each: Choices) -> Vec<Shape> {
     shapes
 }
 
-/// Request E2: limits 0, 1, 2 and none on every strip. The shapes that are best
-/// within some limits are judged within all the others too.
-#[test]
-fn every_limit_on_small_plates() {
+/// Each of these choices on plates with up to three strips: what is best under
+/// each is judged under all the others too.
+fn on_small_plates(what: &str, each: Choices) -> Within {
     let mut within = Within::default();
     for strips in 1..=3 {
         each_accepted(strips, share(strips), &mut |plate| {
             let free = search::best(plate).expect("every plate without limits has a shape");
-            let shapes = shapes_of(plate, each_limits);
-            each_limits(plate, &mut |plate| {
+            let shapes = shapes_of(plate, each);
+            each(plate, &mut |plate| {
                 within.shaping(plate, &free);
                 within.checking(plate, &shapes);
             });
         });
-        println!("limits on up to {strips} strips: {within:?}");
+        println!("{what} on up to {strips} strips: {within:?}");
     }
+    within
+}
+
+/// The numbers that the search over mixed words gives with one and two strips
+/// under each of these choices, which are the library's.
+fn mixed_words_under(what: &str, each: Choices) -> Vec<u8> {
+    let mut numbers = Vec::new();
+    for strips in 1..=2 {
+        each_accepted(strips, 1, &mut |plate| {
+            each(plate, &mut |plate| {
+                let list = list_bytes(plate, 1, None);
+                numbers.push(compare::shaping_longer(&list, search::best_with_words));
+            });
+        });
+    }
+    println!("mixed words {what}: {} lists", numbers.len());
+    numbers
+}
+
+/// Request E2: limits 0, 1, 2 and none on every strip. The shapes that are best
+/// within some limits are judged within all the others too.
+#[test]
+fn every_limit_on_small_plates() {
+    let within = on_small_plates("limits", each_limits);
     assert!(within.shaped > within.other && within.other > 0);
     assert!(within.without > 0 && within.passed > 0);
     assert!(within.sound.iter().all(|&count| count > 0));
@@ -280,36 +303,15 @@ fn every_limit_on_small_plates() {
 /// within limits, and none where there is none.
 #[test]
 fn mixed_words_within_limits() {
-    let mut compared = 0;
-    for strips in 1..=2 {
-        each_accepted(strips, 1, &mut |plate| {
-            each_limits(plate, &mut |plate| {
-                let list = list_bytes(plate, 1, None);
-                compare::shaping_longer(&list, search::best_with_words);
-                compared += 1;
-            });
-        });
-    }
-    println!("mixed words within limits: {compared} lists");
-    assert!(compared > 0);
+    let numbers = mixed_words_under("within limits", each_limits);
+    assert!(numbers.contains(&0) && numbers.contains(&24));
 }
 
 /// Request E12: prices 1, 2, 3 and 100 on every strip. The shapes that are best
 /// with some prices are judged with all the others too.
 #[test]
 fn every_price_on_small_plates() {
-    let mut within = Within::default();
-    for strips in 1..=3 {
-        each_accepted(strips, share(strips), &mut |plate| {
-            let free = search::best(plate).expect("every plate without limits has a shape");
-            let shapes = shapes_of(plate, each_prices);
-            each_prices(plate, &mut |plate| {
-                within.shaping(plate, &free);
-                within.checking(plate, &shapes);
-            });
-        });
-        println!("prices on up to {strips} strips: {within:?}");
-    }
+    let within = on_small_plates("prices", each_prices);
     assert!(within.shaped > within.other && within.other > 0);
     assert_eq!([within.without, within.passed], [0; 2]);
     assert!(within.sound.iter().all(|&count| count > 0));
@@ -345,16 +347,6 @@ fn limits_and_prices_on_small_plates() {
 /// prices.
 #[test]
 fn mixed_words_with_prices() {
-    let mut compared = 0;
-    for strips in 1..=2 {
-        each_accepted(strips, 1, &mut |plate| {
-            each_prices(plate, &mut |plate| {
-                let list = list_bytes(plate, 1, None);
-                assert_eq!(compare::shaping_longer(&list, search::best_with_words), 0);
-                compared += 1;
-            });
-        });
-    }
-    println!("mixed words with prices: {compared} lists");
-    assert!(compared > 0);
+    let numbers = mixed_words_under("with prices", each_prices);
+    assert!(!numbers.is_empty() && numbers.iter().all(|&number| number == 0));
 }

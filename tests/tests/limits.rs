@@ -3,23 +3,13 @@
 
 use plates::{check_shape, write_listing, write_shape, Refusal, Verdict};
 use plates_tests::cancelling;
-use plates_tests::compare;
+use plates_tests::compare::{self, refused};
 use plates_tests::damage::refused_lists;
 use plates_tests::files::{file_of, list_bytes, read_list, shape_bytes, with_limits};
 use plates_tests::plate::{by_number, p1, Plate, Shape};
 use plates_tests::random::{double_ring, looped_ring, Random};
 use plates_tests::remembered::cancel_once;
 use plates_tests::search;
-
-/// The number of shaping, the same for all lengths of lent memory.
-fn refused(list: &[u8]) -> u8 {
-    let none = write_shape(list, &mut []).map_or_else(Refusal::number, |_| 0);
-    let mut out = [0; plates::LONGEST_SHAPE];
-    let number = write_shape(list, &mut out).map_or_else(Refusal::number, |_| 0);
-    assert_eq!(none, if number == 0 { 16 } else { number });
-    assert_eq!(compare::shaping(list, cancelling::best), number);
-    number
-}
 
 /// The number of the check.
 fn judged(list: &[u8], shape: &[u8]) -> u8 {

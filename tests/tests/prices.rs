@@ -3,8 +3,8 @@
 
 use plates::{check_shape, write_shape, Refusal, Verdict};
 use plates_tests::cancelling;
-use plates_tests::compare;
-use plates_tests::damage::{refused_lists, split_fields};
+use plates_tests::compare::{self, refused};
+use plates_tests::damage::{refused_lists, split_fields, with_bytes};
 use plates_tests::files::{
     file_of, list_bytes, read_list, shape_bytes, with_limits, with_prices, with_remark, with_sum,
 };
@@ -14,16 +14,6 @@ use plates_tests::remembered::cancel_once;
 use plates_tests::round_trip::Met;
 use plates_tests::search;
 use plates_tests::texts::text_of;
-
-/// The number of shaping, the same for all lengths of lent memory.
-fn refused(list: &[u8]) -> u8 {
-    let none = write_shape(list, &mut []).map_or_else(Refusal::number, |_| 0);
-    let mut out = [0; plates::LONGEST_SHAPE];
-    let number = write_shape(list, &mut out).map_or_else(Refusal::number, |_| 0);
-    assert_eq!(none, if number == 0 { 16 } else { number });
-    assert_eq!(compare::shaping(list, cancelling::best), number);
-    number
-}
 
 /// The number of the check, and that of the text; 31 is none of the check.
 fn judged(list: &[u8], shape: &[u8]) -> u8 {
@@ -423,13 +413,7 @@ fn sums() {
 #[test]
 fn after_the_numbers_of_the_shape() {
     let (list, file) = p1_files();
-    let changed = |bytes: &[(usize, u8)]| {
-        let mut changed = file.clone();
-        bytes
-            .iter()
-            .for_each(|&(place, byte)| changed[place] = byte);
-        changed
-    };
+    let changed = |bytes: &[(usize, u8)]| with_bytes(&file, bytes);
     let shorter = [&file[..17], &[0x14, 0, 3, 0, 0, 0][..]].concat();
     for (number, sound) in [
         (6, file[..17].to_vec()),

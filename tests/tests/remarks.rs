@@ -124,41 +124,38 @@ fn small_plates() {
     assert!(compared > 4_000);
 }
 
-/// Plates of both sorts, half of them with limits that the best shape just keeps.
-#[test]
-fn random_plates() {
-    let count = if long_mode() { 3_000 } else { 100 };
+/// Pairs of a list and a file of plates of both sorts, each changed as given, half
+/// of them within limits that the best shape just keeps.
+fn pairs_of_plates(count: u64, seed: u64, changed: fn(Plate, &mut Random) -> Plate) -> usize {
     let mut compared = 0;
-    for seed in 0..count {
-        let mut random = Random::new(15_000_000 + seed);
+    for seed in seed..seed + count {
+        let mut random = Random::new(seed);
         let size = 3 + random.below(62);
-        let mut plate = any_plate(size, &mut random);
+        let plate = any_plate(size, &mut random);
+        let mut plate = changed(plate, &mut random);
         if random.below(2) == 0 {
             let shape = cancel_once(&plate).expect("the plate has no limits");
             plate.limits = shape.by_strip().iter().map(|&bends| bends as u8).collect();
         }
         compared += passed_over(&plate, &mut random);
     }
+    compared
+}
+
+#[test]
+fn random_plates() {
+    let count = if long_mode() { 3_000 } else { 100 };
+    let compared = pairs_of_plates(count, 15_000_000, |plate, _| plate);
     println!("{compared} pairs of a list and a file of random plates");
     assert_eq!(compared, 15 * count as usize);
 }
 
-/// Plates of both sorts with prices, half of them with limits too.
 #[test]
 fn random_plates_with_prices() {
     let count = if long_mode() { 1_500 } else { 50 };
-    let mut compared = 0;
-    for seed in 0..count {
-        let mut random = Random::new(20_000_000 + seed);
-        let size = 3 + random.below(62);
-        let plate = any_plate(size, &mut random);
-        let mut plate = plate.priced(&random_prices(&plate, &mut random));
-        if random.below(2) == 0 {
-            let shape = cancel_once(&plate).expect("the plate has no limits");
-            plate.limits = shape.by_strip().iter().map(|&bends| bends as u8).collect();
-        }
-        compared += passed_over(&plate, &mut random);
-    }
+    let compared = pairs_of_plates(count, 20_000_000, |plate, random| {
+        plate.priced(&random_prices(&plate, random))
+    });
     println!("{compared} pairs of a list and a file of plates with prices");
     assert_eq!(compared, 15 * count as usize);
 }

@@ -2,7 +2,7 @@
 //! their order.
 
 use plates_tests::compare;
-use plates_tests::damage::refused_lists;
+use plates_tests::damage::{refused_lists, with_bytes};
 use plates_tests::files::{file_of, list_bytes, with_limits, with_sum};
 use plates_tests::long_mode;
 use plates_tests::near::Near;
@@ -36,13 +36,7 @@ fn p1_files() -> (Vec<u8>, Vec<u8>) {
 /// or more with 31, and the sound one.
 fn p1_refused() -> Vec<(u8, Vec<u8>)> {
     let (list, file) = p1_files();
-    let changed = |bytes: &[(usize, u8)]| {
-        let mut changed = file.clone();
-        bytes
-            .iter()
-            .for_each(|&(place, byte)| changed[place] = byte);
-        changed
-    };
+    let changed = |bytes: &[(usize, u8)]| with_bytes(&file, bytes);
     let shaped = |rights| file_of(&list, &Shape::new(rights, &[1, 3, 3, 1]));
     vec![
         (0, file.clone()),
@@ -274,6 +268,16 @@ fn text_with(wanted: &[u8], random: &mut Random) -> (Vec<u8>, String) {
     }
 }
 
+/// Every choice of these faults, with the first of them, or 0.
+fn choices(faults: &[u8]) -> impl Iterator<Item = (Vec<u8>, u8)> + '_ {
+    (0..1 << faults.len()).map(|choice| {
+        let chosen = (0..faults.len()).filter(|place| choice >> place & 1 == 1);
+        let wanted: Vec<u8> = chosen.map(|place| faults[place]).collect();
+        let first = wanted.first().copied().unwrap_or(0);
+        (wanted, first)
+    })
+}
+
 /// Texts with every choice of faults at random places: the number is that of
 /// the first fault in the order of the numbers, wherever it stands.
 #[test]
@@ -281,12 +285,9 @@ fn order_of_the_numbers() {
     let mut random = Random::new(32);
     let mut met = Met::default();
     for _ in 0..if long_mode() { 2_000 } else { 100 } {
-        for choice in 0..1 << OF_TEXTS.len() {
-            let chosen = (0..OF_TEXTS.len()).filter(|place| choice >> place & 1 == 1);
-            let wanted: Vec<u8> = chosen.map(|place| OF_TEXTS[place]).collect();
+        for (wanted, first) in choices(&OF_TEXTS) {
             let (list, text) = text_with(&wanted, &mut random);
             let number = met.text(&list, text.as_bytes());
-            let first = wanted.first().copied().unwrap_or(0);
             assert_eq!(number, first, "{wanted:?}: {}\n{text}", compare::hex(&list));
         }
     }
@@ -345,11 +346,8 @@ fn order_of_the_counts() {
     let mut random = Random::new(39);
     let mut met = Met::default();
     for _ in 0..if long_mode() { 2_000 } else { 100 } {
-        for choice in 0..1 << OF_COUNTS.len() {
-            let chosen = (0..OF_COUNTS.len()).filter(|place| choice >> place & 1 == 1);
-            let wanted: Vec<u8> = chosen.map(|place| OF_COUNTS[place]).collect();
+        for (wanted, first) in choices(&OF_COUNTS) {
             let (list, file) = file_with(&wanted, &mut random);
-            let first = wanted.first().copied().unwrap_or(0);
             let hex = compare::hex(&file);
             assert_eq!(met.file(&list, &file), first, "{wanted:?}: {hex}");
             let of_check = if first == 31 { 0 } else { first };
