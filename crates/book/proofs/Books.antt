@@ -7,7 +7,10 @@ use Prim.Native.Nat.{ℕ}
 use native.Mathlib.Omega.{arith}
 use Rattle.std.proofs.Common.{Option, Some, None, Result, Ok, Err}
 use Rattle.book.specs.Entries.{has_model, book_fault, entries_of}
-use Rattle.book.specs.Says.{answer_of, revision_of, IsCurrent, OneCurrent, Books}
+use Rattle.refusals.specs.declared.Refusal.{Refusal}
+use Rattle.refusals.proofs.Numbered.{some_number}
+use Rattle.refusals.proofs.OneNumber.{same_refusal}
+use Rattle.book.specs.Says.{answer_of, numbered, revision_of, IsCurrent, OneCurrent, Books}
 use Rattle.book.proofs.Chain.{is_latest, latest_some, listed_has, is_current, only_current, new_model}
 use Rattle.book.proofs.Faults.{first_bad, last_cut, entries_accepted, some_bad}
 use Rattle.book.proofs.Answers.{refused, absent, present, cases}
@@ -32,6 +35,17 @@ case_of (Ok (Some r)) = 2
 abbrev number_in : Result (Option ℕ) ℕ → ℕ
 number_in (Err n) = n
 number_in (Ok o) = 0
+
+abbrev answer_in : Result (Option ℕ) ℕ → Option ℕ
+answer_in (Err n) = None
+answer_in (Ok o) = o
+
+-- an answer by numbers tells the answer: two results of the call are the same
+pub answer_once : (a b : Result (Option ℕ) Refusal) → numbered a ≡ numbered b → a ≡ b
+answer_once (Ok o) (Ok p) e = ap Ok (ap answer_in e)
+answer_once (Ok o) (Err d) e = absurd (some_number d (sym (ap number_in e)))
+answer_once (Err d) (Ok o) e = absurd (some_number d (ap number_in e))
+answer_once (Err c) (Err d) e = ap Err (same_refusal c d (ap number_in e))
 
 module _ (s : List ℕ) (m : ℕ) where
   -- two answers given are of one case

@@ -97,7 +97,7 @@ fn tell_unreadable(rt: &impl Print, file: &mut impl Read, which: &[u8]) -> io::R
 }
 
 // Reads until `buf` is full or the input ends, and gives how many bytes it put at the start of `buf`.
-fn read_full(from: &mut impl Read, buf: &mut [u8]) -> io::Result<usize>
+pub fn read_full(from: &mut impl Read, buf: &mut [u8]) -> io::Result<usize>
     ensures { IfOk result (λ n. n ≤ length buf.new) }
 {
     let mut done = 0;

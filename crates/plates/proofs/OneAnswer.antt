@@ -12,7 +12,13 @@ use Rattle.plates.specs.Files.{walk_all, content_of, list_fault, plate_of, price
 use Rattle.plates.specs.Claims.{BestOf, NoneWithin, SomeWithin}
 use Rattle.plates.specs.Says.{over, word, angles_in, rights_in, file_long, NoneKeeps, shape_fault, check_fault, ShapeWith, ShapeSays, CheckWith, CheckSays}
 use Rattle.plates.specs.Listing.{listing_text, refused_text, Gives, listing_fault, ListingWith, ListingSays}
-use Rattle.plates.specs.Answers.{Shaped, Verdict, Listed, shaped}
+use Rattle.std.specs.Prelude.{Result, Ok, Err}
+use Rattle.refusals.specs.declared.Refusal.{Refusal}
+use Rattle.refusals.proofs.Numbered.{some_number}
+use Rattle.refusals.proofs.OneNumber.{same_refusal}
+use Rattle.plates.specs.declared.encoding.Written.{Written}
+use Rattle.plates.specs.declared.checking.Sound.{Sound}
+use Rattle.plates.specs.Answers.{Shaped, Verdict, Listed, shaped, shaped_of, verdict_of, listed_of}
 use Rattle.plates.proofs.Verdicts.{same_counts}
 
 -- a test told of an accepted list has one answer, and of a refused one it changes nothing
@@ -103,3 +109,22 @@ listing_with (suc f) s o o₁ o₂ r q g h = gives_only (refused_text (suc f)) (
 pub listing_only : (s o o₁ o₂ : List ℕ) (r q : Listed) → ListingSays s o o₁ r → ListingSays s o o₂ q → (o₁ ≡ o₂) × (r ≡ q)
 listing_only s o o₁ o₂ r q (n, h, x) (m, k, y) =
     listing_with (listing_fault m s) s o o₁ o₂ r q (subst (λ (e : ℕ). ListingWith e s o o₁ r) (one_number s n m (λ b. when b 24) h k) x) y
+
+-- ---- the record of an answer tells the answer: with the laws above, two results of a public function are the same
+pub written_once : (r q : Result Written Refusal) → shaped_of r ≡ shaped_of q → r ≡ q
+written_once (Ok v) (Ok w) e = λ x. Ok (record { long = (e x).long; bends = (e x).bends })
+written_once (Ok v) (Err d) e = absurd (some_number d (sym (ap (λ (o : Shaped). o.number) e)))
+written_once (Err d) (Ok w) e = absurd (some_number d (ap (λ (o : Shaped). o.number) e))
+written_once (Err c) (Err d) e = ap Err (same_refusal c d (ap (λ (o : Shaped). o.number) e))
+
+pub sound_once : (r q : Result Sound Refusal) → verdict_of r ≡ verdict_of q → r ≡ q
+sound_once (Ok v) (Ok w) e = λ x. Ok (record { total = (e x).total; fewest = (e x).fewest; ours = (e x).ours })
+sound_once (Ok v) (Err d) e = absurd (some_number d (sym (ap (λ (o : Verdict). o.number) e)))
+sound_once (Err d) (Ok w) e = absurd (some_number d (ap (λ (o : Verdict). o.number) e))
+sound_once (Err c) (Err d) e = ap Err (same_refusal c d (ap (λ (o : Verdict). o.number) e))
+
+pub length_once : (r q : Result ℕ Refusal) → listed_of r ≡ listed_of q → r ≡ q
+length_once (Ok m) (Ok n) e = ap Ok (ap (λ (o : Listed). o.long) e)
+length_once (Ok m) (Err d) e = absurd (some_number d (sym (ap (λ (o : Listed). o.number) e)))
+length_once (Err d) (Ok n) e = absurd (some_number d (ap (λ (o : Listed). o.number) e))
+length_once (Err c) (Err d) e = ap Err (same_refusal c d (ap (λ (o : Listed). o.number) e))

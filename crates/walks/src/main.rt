@@ -1,6 +1,8 @@
 //! Walks short files, with the number of each; puts older ones in order; then writes fields and shows their bytes.
 #![tactic(auto)]
 
+ghost use Rattle.std.specs.Prelude.{◌≤◌, length};
+
 use fields::ordering::order_fields;
 use fields::writing::write_field;
 use fields::{walk_list, walk_older, walk_shape};
@@ -31,7 +33,9 @@ fn older(rt: &impl Print, label: &[u8], s: &[u8], is_shape: bool) -> io::Result<
 }
 
 // Writes fields of zeros, of these tags and lengths, as many as there is room for, and gives their bytes.
-fn zeros<'a>(out: &'a mut [u8], fields: &[(u8, usize)]) -> &'a [u8] {
+fn zeros<'a>(out: &'a mut [u8], fields: &[(u8, usize)]) -> &'a [u8]
+    ensures { length result.now ≤ length out.old }
+{
     let content = [0u8; 4096];
     let mut at = 0;
     for (tag, long) in fields {
