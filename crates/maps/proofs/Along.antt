@@ -1,6 +1,6 @@
 -- Sums over the numbers of one label, such as those of one orbit.
-use mathlib.Core.Path.{◌≡◌, sym, ap, ◌∙◌}
-use mathlib.Core.Bool.{Bool}
+use mathlib.Core.Path.{◌≡◌, refl, sym, ap, ◌∙◌}
+use mathlib.Core.Bool.{Bool, true, false}
 use mathlib.Core.List.{List}
 use Prim.Native.Nat.{ℕ, suc, ◌+◌, ◌≤◌, ◌<◌}
 use native.Mathlib.Omega.{arith}
@@ -28,6 +28,14 @@ module _ (n : ℕ) (L : ℕ → ℕ) (r : ℕ) where
 
   pub along_same : (v w : ℕ → ℕ) → ((i : ℕ) → i < n → v i ≡ w i) → sum_along n L r v ≡ sum_along n L r w
   along_same v w h = sum_cong n (λ i. when (eqb r (L i)) (v i)) (λ i. when (eqb r (L i)) (w i)) (λ i l. ap (when (eqb r (L i))) (h i l))
+
+  -- .. where only those of the label need be the same
+  pub along_alike : (v w : ℕ → ℕ) → ((i : ℕ) → i < n → L i ≡ r → v i ≡ w i) → sum_along n L r v ≡ sum_along n L r w
+  along_alike v w h = sum_cong n (λ i. when (eqb r (L i)) (v i)) (λ i. when (eqb r (L i)) (w i)) (λ i l. by i l (eqb r (L i)) refl)
+    where
+      by : (i : ℕ) → i < n → (t : Bool) → eqb r (L i) ≡ t → when t (v i) ≡ when t (w i)
+      by i l true e = h i l (sym (eqb-true r (L i) e))
+      by i l false e = refl
 
   pub along_at : (a : ℕ) (w : ℕ → ℕ) → a < n → sum_along n L r (λ i. when (eqb i a) (w i)) ≡ when (eqb r (L a)) (w a)
   along_at a w l =

@@ -1,16 +1,16 @@
 -- The number of orbits, and how it changes when two numbers exchange their images.
 use mathlib.Core.Path.{◌≡◌, refl, sym, ap, subst, ◌∙◌, fun_ext}
-use mathlib.Core.Bool.{Bool, true}
+use mathlib.Core.Bool.{Bool, true, ◌&&◌}
 use mathlib.Core.List.{List}
 use mathlib.Core.Logic.{⊎_elim}
 use Prim.Native.Nat.{ℕ, suc, ◌+◌, ◌≤◌, ◌<◌}
 use native.Mathlib.Omega.{arith}
-use borrow.Author.Tests.{eq-eqb, ne_eqb}
+use borrow.Author.Tests.{eqb-true, eq-eqb, ne_eqb}
 use lib.Dec.{eqb}
 use lib.ListN.{length}
 use Rattle.finite.specs.Base.{pick, when, is_in, is_lowest}
-use Rattle.finite.proofs.Sums.{sum_cong}
-use Rattle.finite.proofs.Tests.{either, not_both, equal_or_not, and_left, and_both, same_test}
+use Rattle.finite.proofs.Sums.{sum_below, sum_cong, sum_ones, sum_swap, sum_at, when_and}
+use Rattle.finite.proofs.Tests.{either, not_both, equal_or_not, and_left, and_right, and_both, same_test}
 use Rattle.finite.proofs.Members.{all_of}
 use Rattle.finite.proofs.Pigeonhole.{at_most}
 use Rattle.finite.proofs.Orbit.{OneToOne, Met, start, next, walk, orbit, lead_in, walk_keeps, walk_met, head_in, next_in, once, walk_distinct, walk_below, orbit_start, orbit_next, orbit_sym, orbit_trans, lead-in, lead_below, lead_same, leads}
@@ -51,6 +51,40 @@ orbits_agree f g n F G e =
     (lead_finer f n F (lead_in g n) (λ x l. ap (lead_in g n) (e x l) ∙ lead_next g n G x l))
     (lead_finer g n G (lead_in f n) (λ x l. ap (lead_in f n) (sym (e x l)) ∙ lead_next f n F x l))
     ∙ sym (orbits_classes g n G)
+
+-- each orbit has a kind of its own below v, and each kind has an orbit: there are v orbits
+module _ (f : ℕ → ℕ) (n : ℕ) (F : OneToOne f n) (kind : ℕ → ℕ) (v : ℕ) (small : (d : ℕ) → d < n → kind d < v) (kept : (d : ℕ) → d < n → kind (f d) ≡ kind d) (tells : Finer kind (lead_in f n) n) (some : (p : ℕ) → p < v → (d : ℕ) × (d < n) × (kind d ≡ p)) where
+  pub orbits_kinds : orbits f n ≡ v
+  orbits_kinds =
+      orbits_classes f n F
+      ∙ sum_cong n (λ i. when (eqb i (L i)) 1) (λ i. sum_below v (λ p. when (eqb p (kind i)) (when (eqb i (L i)) 1))) (λ i l. sym (sum_at v (kind i) (λ p. when (eqb i (L i)) 1) (small i l)))
+      ∙ sum_swap n v (λ i p. when (eqb p (kind i)) (when (eqb i (L i)) 1))
+      ∙ sum_cong v (λ p. sum_below n (λ i. when (eqb p (kind i)) (when (eqb i (L i)) 1))) (λ p. 1) (λ p l. one p (some p l).0 (some p l).1 (some p l).2)
+      ∙ sum_ones v
+    where
+      L : ℕ → ℕ
+      L = lead_in f n
+
+      A : Labels L n
+      A = lead_labels f n F
+
+      one : (p d : ℕ) → d < n → kind d ≡ p → sum_below n (λ i. when (eqb p (kind i)) (when (eqb i (L i)) 1)) ≡ 1
+      one p d l e =
+          sum_cong n (λ i. when (eqb p (kind i)) (when (eqb i (L i)) 1)) (λ i. when (eqb i (L d)) 1)
+          (λ i k. when_and (eqb p (kind i)) (eqb i (L i)) 1 ∙ ap (λ (b : Bool). when b 1) (same_test (eqb p (kind i) && eqb i (L i)) (eqb i (L d)) (there i k) (back i)))
+          ∙ sum_at n (L d) (λ i. 1) (A.below d l)
+        where
+          there : (i : ℕ) → i < n → eqb p (kind i) && eqb i (L i) ≡ true → eqb i (L d) ≡ true
+          there i k q =
+              eq-eqb i (L d)
+              (eqb-true i (L i) (and_right (eqb p (kind i)) (eqb i (L i)) q) ∙ tells i d k l (sym (eqb-true p (kind i) (and_left (eqb p (kind i)) (eqb i (L i)) q)) ∙ sym e))
+
+          back : (i : ℕ) → eqb i (L d) ≡ true → eqb p (kind i) && eqb i (L i) ≡ true
+          back i q =
+              let lead : i ≡ L d = eqb-true i (L d) q in
+              and_both (eqb p (kind i)) (eqb i (L i))
+              (eq-eqb p (kind i) (sym e ∙ lead_finer f n F kind kept d (L d) l (A.below d l) (sym (A.again d l)) ∙ ap kind (sym lead)))
+              (eq-eqb i (L i) (lead ∙ sym (A.again d l) ∙ ap L (sym lead)))
 
 -- x, but b for a and a for b
 abbrev pub swapped : ℕ → ℕ → ℕ → ℕ

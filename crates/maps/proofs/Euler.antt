@@ -12,11 +12,11 @@ use lib.Dec.{eqb}
 use Rattle.finite.specs.Base.{pick, when}
 use Rattle.maps.specs.Maps.{twin, turn, Connected}
 use Rattle.finite.proofs.Sums.{sum_cong, sum_none, sum_ones}
-use Rattle.finite.proofs.Tests.{equal_or_not, not_both, not_true_false, or_cases, or_left}
+use Rattle.finite.proofs.Tests.{either, equal_or_not, not_both, not_true_false, or_cases, or_left}
 use Rattle.finite.proofs.Orbit.{OneToOne, lead_in}
 use Rattle.maps.proofs.Labels.{classes_one, Finer}
-use Rattle.maps.proofs.Cycles.{orbits, orbits_classes, orbits_agree, lead_next, lead_labels, exchanged, exchanged_twice, exchange_meets, exchange_parts, exchange_keeps, exchange_apart, exchange_same}
-use Rattle.maps.proofs.Darts.{at_dart, none, add, members, add_there, members_add, across_in, turn_by, turn_one, turn_add}
+use Rattle.maps.proofs.Cycles.{orbits, orbits_classes, orbits_agree, lead_next, lead_labels, lead_finer, exchanged, exchanged_twice, exchange_meets, exchange_parts, exchange_keeps, exchange_apart, exchange_same}
+use Rattle.maps.proofs.Darts.{at_dart, none, add, members, add_there, members_add, across, across_in, across_out, across_below, turn_by, turn_one, turn_add}
 
 -- with the edges of S put in: the lowest dart of d's orbit, and the number of orbits
 abbrev pub lead_by : (ℕ → ℕ) → ℕ → (ℕ → Bool) → ℕ → ℕ
@@ -193,6 +193,13 @@ module _ (next : ℕ → ℕ) (m : ℕ) (F : OneToOne next (2 * m)) where
 
   pub whole_twin : (d : ℕ) → d < 2 * m → lead_by next m whole (twin d) ≡ lead_by next m whole d
   whole_twin = at_dart (λ x y. lead_by next m whole y ≡ lead_by next m whole x) m (λ i h. sym ((grown m (le_refl m)).ties i h)) (grown m (le_refl m)).ties
+
+  -- with the whole tree put in the orbits are the components: what is kept by next and twin is the same all over one
+  pub whole_finer : (K : ℕ → ℕ) → ((d : ℕ) → d < 2 * m → K (next d) ≡ K d) → ((d : ℕ) → d < 2 * m → K (twin d) ≡ K d) → Finer (lead_by next m whole) K (2 * m)
+  whole_finer K h t = lead_finer (turn_by next whole) (2 * m) (turn_one next m F whole) K (λ x l. h (across whole x) (across_below whole m x l) ∙ crossed x l)
+    where
+      crossed : (x : ℕ) → x < 2 * m → K (across whole x) ≡ K x
+      crossed x l = ⊎_elim (λ e. ap K (across_in whole x e) ∙ t x l) (λ e. ap K (across_out whole x e)) (either (whole (x / 2)))
 
   -- Euler's inequality over components; the orbits of turn are the vertices, those of next the faces
   pub euler_components : orbits (turn next) (2 * m) + orbits next (2 * m) ≤ m + 2 * orbits_by next m whole

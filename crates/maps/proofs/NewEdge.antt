@@ -11,7 +11,7 @@ use Rattle.finite.proofs.Sums.{sum_over}
 use Rattle.finite.proofs.Tests.{equal_or_not, not_both, not_true_false}
 use Rattle.finite.proofs.Orbit.{OneToOne, orbit, lead_in, lead_same}
 use Rattle.maps.proofs.Cycles.{orbits, in_orbit}
-use Rattle.maps.proofs.Darts.{turn_one, twin_first, twin_second}
+use Rattle.maps.proofs.Darts.{turn_one, twin_below, twin_first, twin_second}
 use Rattle.maps.proofs.Euler.{turn_one_to_one}
 use Rattle.maps.proofs.Along.{along_add, along_same, along_at}
 use Rattle.maps.proofs.Walks.{along_of, kept_of, sum_over_twos}
@@ -25,6 +25,9 @@ size m = omega arith
 pub turn_more : (next : ℕ → ℕ) (m : ℕ) → OneToOne next (suc (suc (2 * m))) → OneToOne (turn next) (suc (suc (2 * m)))
 turn_more next m G =
     subst (λ (k : ℕ). OneToOne (turn next) k) (size m) (turn_one_to_one next (suc m) (subst (λ (k : ℕ). OneToOne next k) (sym (size m)) G))
+
+pub twin_more : (m d : ℕ) → d < suc (suc (2 * m)) → twin d < suc (suc (2 * m))
+twin_more m d l = subst (λ (k : ℕ). twin d < k) (size m) (twin_below (suc m) d (omega arith))
 
 pub twin_one : (m : ℕ) → OneToOne twin (2 * m)
 twin_one m = turn_one (λ y. y) m (record { below = λ i l. l; one = λ i j l k e. e }) (λ i. true)

@@ -193,6 +193,10 @@ module _ (next after : ℕ → ℕ) (m t : ℕ) (F : OneToOne next (2 * m)) (l :
           ap (turn after) (swapped_second (twin t) (suc n) x e) ∙ ap after (twin_twin t) ∙ S.at
           ∙ sym (ap name (ap paired e ∙ paired_in.after ∙ apart_in.fixed) ∙ name_old n last_below (omega (arith, other_way)))
 
+  -- t's twin is called 2m + 1 at the post where it started
+  pub split_names : (x : ℕ) → x < n → turn after (swapped (twin t) (suc n) x) ≡ swapped (twin t) (suc n) (turn next x)
+  split_names x k = renames x (omega arith) ∙ ap name (paired_old x k)
+
   turn_after : OneToOne (turn after) N
   turn_after = turn_more after m split_one
 

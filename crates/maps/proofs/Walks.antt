@@ -3,15 +3,15 @@ use mathlib.Core.Path.{◌≡◌, refl, sym, ap, ◌∙◌}
 use mathlib.Core.Bool.{Bool, true}
 use mathlib.Core.List.{List, [], ◌∷◌}
 use mathlib.Core.Logic.{⊎_elim}
-use Prim.Native.Nat.{ℕ, zero, suc, ◌+◌, ◌*◌, ◌/◌, ◌<◌}
+use Prim.Native.Nat.{ℕ, zero, suc, ◌+◌, ◌*◌, ◌/◌, ◌≤◌, ◌<◌}
 use native.Mathlib.Omega.{arith}
 use borrow.Author.Tests.{eqb-true, eq-eqb}
 use lib.Dec.{eqb}
 use lib.ListN.{length}
 use Rattle.finite.specs.Base.{when, is_in}
-use Rattle.finite.proofs.Sums.{sum_below, sum_over, sum_cong}
+use Rattle.finite.proofs.Sums.{sum_below, sum_over, sum_cong, sum_swap, sum_at}
 use Rattle.finite.proofs.Tests.{equal_or_not, same_test}
-use Rattle.finite.proofs.Orbit.{OneToOne, walk, rest, orbit, lead_in, stops, goes, walk_keeps, orbit_sum, orbit_sym, orbit_start, orbit_next, lead_same}
+use Rattle.finite.proofs.Orbit.{OneToOne, start, next, walk, rest, orbit, lead_in, stops, goes, enough, walk_keeps, walk_most, orbit_sum, orbit_sym, orbit_start, orbit_next, lead_same}
 use Rattle.maps.proofs.Cycles.{in_orbit}
 use Rattle.maps.proofs.Along.{sum_along}
 
@@ -41,6 +41,12 @@ walk_alike f g u v Q same weigh step (suc k) s d h = ⊎_elim stop (go (walk_ali
 pub sum_over_twos : (xs : List ℕ) → sum_over xs (λ i. 2) ≡ 2 * length xs
 sum_over_twos [] = refl
 sum_over_twos (x ∷ xs) = omega (arith, sum_over_twos xs)
+
+-- all labels' sums make up the whole sum
+pub along_all : (n : ℕ) (L : ℕ → ℕ) → ((i : ℕ) → i < n → L i < n) → (w : ℕ → ℕ) → sum_below n (λ r. sum_along n L r w) ≡ sum_below n w
+along_all n L below w =
+    sum_swap n n (λ r i. when (eqb r (L i)) (w i))
+    ∙ sum_cong n (λ i. sum_below n (λ r. when (eqb r (L i)) (w i))) w (λ i l. sum_at n (L i) (λ r. w i) (below i l))
 
 -- an edge's two darts
 pub sum_pairs : (m : ℕ) (f : ℕ → ℕ) → sum_below (2 * m) (λ d. f (d / 2)) ≡ 2 * sum_below m f
@@ -75,3 +81,11 @@ module _ (f : ℕ → ℕ) (n : ℕ) (F : OneToOne f n) where
       back e =
           (walk_keeps f (λ y. (y < n) × (s y ≡ true)) (λ y h. (F.below y h.0, closed y h.0 h.1)) n (f x) (f x) (F.below x l, e) x
           (orbit_sym f n F x (f x) l (orbit_next f n F x l x (orbit_start f n F x l)))).1
+
+  -- an orbit by one more step of fuel
+  pub orbit_more : (d : ℕ) → d < n → walk f (suc n) d d ≡ orbit f n d
+  orbit_more d l = enough f n d d (walk_most f n F (suc n) start l)
+
+  -- from the second number of an orbit on
+  pub rest_most : (s : ℕ) → s < n → (f s ≡ s → ⊥) → length (walk f (suc n) s (f s)) ≤ n
+  rest_most s l q = walk_most f n F (suc n) (next start q) l
