@@ -6,9 +6,11 @@ use mathlib.Core.List.{List}
 use Prim.Native.Nat.{ℕ, ◌+◌, ◌*◌, ◌≤◌, ◌<◌, min}
 use native.Mathlib.Nat.{mul-le-mul_left, le_refl}
 use native.Mathlib.Omega.{arith}
-use lib.ListN.{length, get_or}
+use native.Mathlib.Decide.{dec_lt}
+use lib.ListN.{length, get_or, get_or-eq_default}
 use Rattle.finite.proofs.Sums.{sum_below, sum_cong, sum_le, total_sum}
 use Rattle.residual.specs.Residual.{Shaped}
+use Rattle.residual.specs.Chains.{Movable}
 use Rattle.flow.specs.Network.{Network, Flow, Sound, Least, total, cost_of, smaller, unbounded, excess, excess_at, network, Either, Best, NoFlow}
 use Rattle.flow.specs.Solver.{residual_of, State, Carried, Caps, Spread, Zeros, Ready, Stalled, Capped, First, Settled, Finished, Blocked, phase_most}
 use Rattle.flow.proofs.Names.{arcs, nodes, tail, head, lower, upper, GoesOut, GoesIn, Full, AtLower}
@@ -21,6 +23,13 @@ use Rattle.flow.proofs.Duality.{capped_spare}
 use Rattle.flow.proofs.Lexicographic.{upto_none, priced_least}
 use Rattle.flow.proofs.Trims.{excess_sum, trim}
 use Rattle.flow.proofs.Uniques.{smaller_trans, below_smaller}
+
+-- what can move below its cap can move
+pub capped_moves : {lowers uppers : List ℕ} {e : ℕ} {caps : List ℕ} → Caps lowers uppers e caps → (a : ℕ) → Movable lowers caps a → Movable lowers uppers a
+capped_moves {uppers = uppers} {caps = caps} c a m = elim (dec_lt a (length uppers)) [
+  | yes l ↦ omega (arith, c.at a l)
+  | no n ↦ absurd (omega (arith, get_or-eq_default caps 0 {n = a} (omega (arith, n, c.long))))
+]
 
 abbrev pub capped : Network → List ℕ → Network
 capped n caps = network n.tails n.heads n.lowers caps n.costs n.supplies n.demands
