@@ -4,11 +4,11 @@ use mathlib.Core.Bool.{Bool, true, false, ◌&&◌, ◌||◌, not}
 use Prim.Native.Nat.{ℕ, suc, ◌+◌, ◌*◌, ◌≤◌, ◌<◌}
 use native.Mathlib.Decide.{dec_lt}
 use native.Mathlib.Omega.{arith}
-use borrow.Author.Tests.{eq-eqb, ltb-false, le-ltb, not-true}
+use borrow.Author.Tests.{eqb-true, eq-eqb, ltb-false, le-ltb, not-true}
 use lib.Dec.{eqb, ltb}
 use lib.ListN.{length}
 use Rattle.finite.proofs.Members.{all_in, get_d_in}
-use Rattle.finite.proofs.Sums.{sum_below, sum_cong, sum_ones, sum_constant, sum_has, sum_le}
+use Rattle.finite.proofs.Sums.{sum_below, sum_cong, sum_ones, sum_constant, sum_count, sum_has, sum_le}
 use Rattle.finite.proofs.Tests.{not_of_false, from_each, each_from, eqb_turned}
 use Rattle.embedding.specs.Plates.{when, Plate, darts, strips, leaves, ends_at, degree, over_four, faces, connected}
 use Rattle.embedding.proofs.Rotation.{Ordered, degree_count}
@@ -38,6 +38,18 @@ module _ (p : Plate) (o : Ordered p) where
 
   pub degrees_sum : sum_below p.posts (degree p) ≡ darts p
   degrees_sum = sum_cong p.posts (degree p) (end_sum p (λ d. 1)) (λ v l. degree_ends v) ∙ posts_sum p o (λ d. 1) ∙ sum_ones (darts p)
+
+  -- a number for each post, once for each dart that ends there
+  pub by_post : (g : ℕ → ℕ) → sum_below (darts p) (λ d. g (ends_at p d)) ≡ sum_below p.posts (λ v. degree p v * g v)
+  by_post g =
+      sym (posts_sum p o (λ d. g (ends_at p d)))
+      ∙ sum_cong p.posts (end_sum p (λ d. g (ends_at p d))) (λ v. degree p v * g v)
+      (λ v l. sum_cong (darts p) (λ d. when (eqb (ends_at p d) v) (g (ends_at p d))) (λ d. when (eqb (ends_at p d) v) (g v)) (λ d k. there (ends_at p d) v (eqb (ends_at p d) v) refl)
+      ∙ sum_count (darts p) (λ d. eqb (ends_at p d) v) (g v) ∙ ap (λ (k : ℕ). k * g v) (sym (degree_ends v)))
+    where
+      there : (u v : ℕ) (b : Bool) → eqb u v ≡ b → when b (g u) ≡ when b (g v)
+      there u v true e = ap g (eqb-true u v e)
+      there u v false e = refl
 
 -- no post over four, as a test and of each post
 module _ (p : Plate) where

@@ -1,12 +1,12 @@
--- What passes from each dart to the next of its face and to its twin passes round each post, and so from post to post to all darts.
+-- The dual of a connected plate is connected: what passes from each dart to the next of its face and to its twin passes round each post, and so from post to post to all darts.
 use mathlib.Core.Path.{◌≡◌, refl, sym, ap, subst, ◌∙◌}
-use mathlib.Core.Bool.{true}
+use mathlib.Core.Bool.{Bool, true}
 use mathlib.Core.List.{List, [], ◌∷◌}
 use mathlib.Core.Logic.{⊎_elim}
 use Prim.Native.Nat.{ℕ, suc, ◌%◌, ◌<◌}
 use native.Mathlib.Omega.{arith}
 use Rattle.finite.proofs.Members.{in_none, in_here, in_one, in_more, in_cases, distinct_head, distinct_rest}
-use Rattle.finite.proofs.Tests.{not_both}
+use Rattle.finite.proofs.Tests.{not_both, same_test}
 use Rattle.embedding.specs.Plates.{is_in, Plate, darts, twin, leaves, part_of, distinct, last_of, just_before, after, connected}
 use Rattle.embedding.proofs.Rotation.{Ordered, twin_twin, twin_even, twin_dart, before_here, before_on, round_before, leaves_below, own_part, part_distinct, part_leaves}
 use Rattle.embedding.proofs.Reach.{spreads}
@@ -80,3 +80,56 @@ module _ (p : Plate) (o : Ordered p) (P : ℕ → Type 0)
           let there : twin i ≡ suc i = twin_even i z in
           let back : twin (suc i) ≡ i = sym (ap twin there) ∙ twin_twin i in
           (λ a. subst (λ (d : ℕ). AllOf (leaves p d)) there (across i (omega arith) a), λ a. subst (λ (d : ℕ). AllOf (leaves p d)) back (across (suc i) m a))
+
+-- a set of darts
+module _ (p : Plate) (o : Ordered p) (D : ℕ → Bool)
+    (by_after : (d : ℕ) → d < darts p → D d ≡ true → D (after p d) ≡ true) (by-twin : (d : ℕ) → d < darts p → D d ≡ true → D (twin d) ≡ true) where
+  post_same : (d e : ℕ) → d < darts p → e < darts p → leaves p d ≡ leaves p e → D d ≡ D e
+  post_same d e l k q = same_test (D d) (D e) (all d e l k q) (all e d k l (sym q))
+    where
+      all : (d e : ℕ) → d < darts p → e < darts p → leaves p d ≡ leaves p e → D d ≡ true → D e ≡ true
+      all = post_all p o (λ x. D x ≡ true) by_after by-twin
+
+  twin_same : (d : ℕ) → d < darts p → D (twin d) ≡ D d
+  twin_same d l = same_test (D (twin d)) (D d) (λ h. subst (λ (t : ℕ). D t ≡ true) (twin_twin d) (by-twin (twin d) (twin_dart p o d l) h)) (by-twin d l)
+
+  -- whether D has the darts of the post whose darts these are
+  has : List ℕ → Bool
+  has [] = true
+  has (d ∷ ds) = D d
+
+  -- every dart that leaves v is in D as those of post 0 are
+  Alike : ℕ → Type 0
+  Alike v = (e : ℕ) → e < darts p → leaves p e ≡ v → D e ≡ has (part_of p 0)
+
+  alike_0 : Alike 0
+  unfolding Alike has
+  alike_0 e l q = among (part_of p 0) refl
+    where
+      0-below : 0 < p.posts
+      0-below = omega (arith, leaves_below p o e l)
+
+      among : (ds : List ℕ) → part_of p 0 ≡ ds → D e ≡ has ds
+      among [] w = absurd (in_none e (subst (λ (l : List ℕ). is_in e l ≡ true) w (subst (λ (u : ℕ). is_in e (part_of p u) ≡ true) q (own_part p o e l))))
+      among (d ∷ ds) w =
+          let at-0 = part_leaves p o 0 0-below d (subst (λ (l : List ℕ). is_in d l ≡ true) (sym w) (in_here d ds)) in
+          post_same e d l at-0.0 (q ∙ sym at-0.1)
+
+  -- d's post and e's are alike if D has both d and e or neither
+  pass : (d e : ℕ) → d < darts p → e < darts p → D d ≡ D e → Alike (leaves p d) → Alike (leaves p e)
+  unfolding Alike
+  pass d e l k q a c m w = post_same c e m k w ∙ sym q ∙ a d l refl
+
+  alike_all : connected p ≡ true → (v : ℕ) → v < p.posts → Alike v
+  alike_all c = spreads p Alike o.ends_below c alike_0 along
+    where
+      along : (i : ℕ) → i % 2 ≡ 0 → suc i < darts p → (Alike (leaves p i) → Alike (leaves p (suc i))) × (Alike (leaves p (suc i)) → Alike (leaves p i))
+      along i h l =
+          let k : i < darts p = omega arith in
+          let q : D (suc i) ≡ D i = ap D (sym (twin_even i h)) ∙ twin_same i k in
+          (pass i (suc i) k l (sym q), pass (suc i) i l k q)
+
+  pub dual_connected : connected p ≡ true → (d : ℕ) → d < darts p → D d ≡ true → (e : ℕ) → e < darts p → D e ≡ true
+  unfolding Alike
+  dual_connected c d l h e k =
+      alike_all c (leaves p e) (leaves_below p o e k) e k refl ∙ sym (alike_all c (leaves p d) (leaves_below p o d l) d l refl) ∙ h

@@ -11,7 +11,7 @@ use lib.Dec.{eqb}
 use lib.ListN.{length}
 use Rattle.finite.specs.Walks.{walk, orbit, lowest}
 use Rattle.finite.proofs.Members.{in_none, in_here, in_one, in_append, in_left, in_right, distinct_more}
-use Rattle.finite.proofs.Orbit.{orbit_same, lead_same, lead_lowest, leads, orbits_sum, orbit_distinct, orbit_below, orbit_all_below, orbit_closes, orbit_start, orbit_next, orbit_sum, orbit_sym, lead-in, lead_le}
+use Rattle.finite.proofs.Orbit.{orbit_same, lead_same, lead_lowest, leads, orbits_sum, orbit_distinct, orbit_below, orbit_all_below, orbit_closes, orbit_start, orbit_next, orbit_back, orbit_sum, orbit_sym, lead-in, lead_le}
 use Rattle.finite.proofs.Sums.{sum_below, sum_over, sum_cong, sum_ones, sum_from, sum_over_append, sum_over_ones, sum_over_cong}
 use Rattle.finite.proofs.Tests.{equal_or_not, not_true_false, and_both}
 use Rattle.embedding.specs.Plates.{pick, when, is_in, Plate, darts, distinct, all_below, last_of, after, walk_from, face_of, is_lowest, faces_from, faces}
@@ -117,6 +117,10 @@ module _ (p : Plate) (o : Ordered p) where
 
     pub face_next : (x : ℕ) → is_in x (face_of p d) ≡ true → is_in (after p x) (face_of p d) ≡ true
     face_next = by_orbit (λ F. (x : ℕ) → is_in x (F d) ≡ true → is_in (after p x) (F d) ≡ true) (orbit_next (after p) (darts p) (after_one_to_one p o) d l)
+
+    pub face_back : (x : ℕ) → x < darts p → is_in (after p x) (face_of p d) ≡ true → is_in x (face_of p d) ≡ true
+    face_back =
+        by_orbit (λ F. (x : ℕ) → x < darts p → is_in (after p x) (F d) ≡ true → is_in x (F d) ≡ true) (orbit_back (after p) (darts p) (after_one_to_one p o) d l)
 
     pub face_sum : (g : ℕ → ℕ) → sum_over (face_of p d) g ≡ sum_below (darts p) (λ i. when (is_in i (face_of p d)) (g i))
     face_sum =

@@ -7,7 +7,7 @@ use mathlib.Core.Logic.{⊎_elim}
 use Prim.Native.Nat.{ℕ, suc, ◌+◌, ◌-◌, ◌*◌, ◌≤◌, ◌<◌}
 use native.Mathlib.Omega.{arith}
 use lib.ListN.{length, get_or, take, drop, set, length-set, length-append, length-drop}
-use lib.Seq.{take_all, take-set-lt, length-take-le}
+use lib.Seq.{take_all, take-suc-set, take-set-lt, length-take-le}
 use Rattle.finite.proofs.Tests.{either, not_true_false}
 use Rattle.embedding.specs.Plates.{is_in, distinct, Plate, plate}
 use Rattle.embedding.specs.Read.{place_of, Reads}
@@ -27,6 +27,20 @@ front_same {xs = xs} e = subst (λ (k : List ℕ). Front k xs) e
 
 pub front_take : {l xs : List ℕ} {k : ℕ} → Front l xs → length l ≡ k → take k xs ≡ l
 front_take {l} {xs} f e = ap (λ (j : ℕ). take j xs) (sym e) ∙ f.front
+
+-- one more behind it
+pub front_one : {l xs : List ℕ} (at a : ℕ) → Front l xs → length l ≡ at → at < 256 → Front (l ++ (a ∷ [])) (set xs at a)
+front_one {l} {xs} at a f e k =
+    record {
+      size = length-set xs at a ∙ f.size;
+      front = ap (λ (j : ℕ). take j (set xs at a)) {x = length (l ++ (a ∷ []))} {y = suc at} (omega (arith, length-append l (a ∷ [])))
+          ∙ take-suc-set xs at a (omega (arith, f.size)) ∙ ap (λ (m : List ℕ). m ++ (a ∷ [])) (front_take f e);
+    }
+
+pub front_two : {l xs : List ℕ} (at a b : ℕ) → Front l xs → length l ≡ at → at + 1 < 256 → Front (l ++ (a ∷ (b ∷ []))) (set (set xs at a) (at + 1) b)
+front_two {l} at a b f e k =
+    front_same (append_assoc l (a ∷ []) (b ∷ []))
+    (front_one (at + 1) b (front_one at a f e (omega arith)) (omega (arith, length-append l (a ∷ []))) k)
 
 -- one of it changed
 pub front_set : {l xs : List ℕ} (i y : ℕ) → Front l xs → i < length l → Front (set l i y) (set xs i y)
