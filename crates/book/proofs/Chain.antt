@@ -79,6 +79,9 @@ module _ (m : ℕ) where
   pub latest_nowhere : (es : List Entry) → has_model m es ≡ false → slice_get (listed_of m es) 0 ≡ None
   latest_nowhere es h = ap (λ (xs : List ℕ). slice_get xs 0) (has_none es h)
 
+  pub latest_none : (es : List Entry) → has_model m es ≡ false → latest m es ≡ 0
+  latest_none es h = ap (λ (xs : List ℕ). get_or xs 0 0) (has_none es h)
+
   pub listed_has : (r : ℕ) (es : List Entry) → is_in r (listed_of m es) ≡ true → has_model m es ≡ true
   listed_has r es h = ⊎_elim (λ p. p) (λ p. absurd (in_none r (subst (λ (xs : List ℕ). is_in r xs ≡ true) (has_none es p) h))) (either (has_model m es))
 
