@@ -1,19 +1,25 @@
--- The space between two numbers, and the numbers, as code comes to them.
+-- How long a text is that begins with a word; the space between two numbers, and the numbers, as code comes to them.
 use mathlib.Core.Path.{◌≡◌, refl, ap, ap₂, ◌∙◌}
 use mathlib.Core.Bool.{Bool, true, false, not, cond}
 use mathlib.Core.List.{List, [], ◌∷◌}
-use Prim.Native.Nat.{ℕ, suc, ◌+◌, ◌-◌}
+use Prim.Native.Nat.{ℕ, suc, ◌+◌, ◌-◌, ◌≤◌}
 use native.Mathlib.Omega.{arith}
 use lib.Dec.{eqb, ltb}
 use lib.ListN.{length, take, drop}
 use Rattle.std.proofs.Common.{Option, Some, None, position}
 use Rattle.std.specs.List.{position_or_len}
 use Rattle.finite.specs.Base.{pick}
-use Rattle.finite.proofs.Tests.{eqb_turned}
+use Rattle.finite.proofs.Tests.{eqb_turned, and_right}
 use Rattle.finite.proofs.Lent.{rest_lent}
 use Rattle.embedding.specs.Read.{place_of}
 use Rattle.embedding.specs.declared.journal.Step.{Step}
-use Rattle.replaying.specs.Lines.{number_in, join_of, join_in}
+use Rattle.replaying.specs.Lines.{begins_with, number_in, join_of, join_in}
+
+-- a text is no shorter than a word that it begins with
+pub begins_long : (w s : List ℕ) → begins_with w s ≡ true → length w ≤ length s
+begins_long [] s e = omega arith
+begins_long (x ∷ w) [] e = let z : ◌≡◌ {A = ℕ} 0 1 = cc in absurd (omega arith)
+begins_long (x ∷ w) (y ∷ s) e = omega (arith, begins_long w s (and_right (eqb x y) (begins_with w s) e))
 
 -- the library's place of a space
 place_is : (s : List ℕ) → position_or_len (λ (x : ℕ). eqb x 32) s ≡ place_of 32 s
