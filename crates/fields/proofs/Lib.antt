@@ -14,6 +14,7 @@ pub mod Ascent
 pub mod Comes
 pub mod Rising
 pub mod RunBytes
+pub mod Standing
 pub mod Sorted
 pub mod Earlier
 pub mod Replaced

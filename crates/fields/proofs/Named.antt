@@ -12,7 +12,7 @@ use Rattle.finite.specs.Base.{when}
 use Rattle.refusals.specs.declared.Refusal.{Refusal}
 use Rattle.fields.specs.Files.{Field, content_of, walk_by, walk_all, old_walk}
 use Rattle.fields.specs.Rules.{tag_at, all_met}
-use Rattle.fields.specs.Says.{SlotsOf, FieldsMet, HoldsBy, ListNamed, ShapeNamed, ListThere, ShapeThere, AllThere, ListFieldsOf, ShapeFieldsOf, ListWalked, ShapeWalked}
+use Rattle.fields.specs.Says.{Placed, SlotsOf, FieldsMet, HoldsBy, ListNamed, ShapeNamed, ListThere, ShapeThere, AllThere, ListFieldsOf, ShapeFieldsOf, ListWalked, ShapeWalked}
 use Rattle.fields.specs.declared.Slots.{Slots}
 use Rattle.fields.specs.declared.ListFields.{ListFields}
 use Rattle.fields.specs.declared.ShapeFields.{ShapeFields}
@@ -26,6 +26,10 @@ module _ {k : Bool} {fs : List Field} {f : Slots} (h : SlotsOf k fs f) where
       let o : Some c.now ≡ option_map (λ c. c.now) (get_or f.slots i None) = ap (option_map (λ c. c.now)) e in
       content_by (tag_at k i) fs (o ∙ h.slot i l)
 
+  -- and the places
+  placed_is : (at : List ℕ) → at ≡ f.at → Placed k fs at
+  placed_is at e i l = ap (λ (x : List ℕ). get_or x i 0) e ∙ h.place i l
+
 list_named : {fs : List Field} {f : Slots} → SlotsOf false fs f → (g : ListFields) → ListNamed f g → ListFieldsOf fs g
 list_named h g n =
     record {
@@ -34,8 +38,10 @@ list_named h g n =
       ends = content_is h 2 (lit< tt) g.ends n.ends;
       order = content_is h 3 (lit< tt) g.order n.order;
       outer = content_is h 4 (lit< tt) g.outer n.outer;
+      remark = ap (option_map (λ c. c.now)) n.remark ∙ h.slot 5 (lit< tt);
       limits = ap (option_map (λ c. c.now)) n.limits ∙ h.slot 6 (lit< tt);
       prices = ap (option_map (λ c. c.now)) n.prices ∙ h.slot 7 (lit< tt);
+      place = placed_is h g.at n.place;
     }
 
 shape_named : {fs : List Field} {f : Slots} → SlotsOf true fs f → (g : ShapeFields) → ShapeNamed f g → ShapeFieldsOf fs g
@@ -45,7 +51,9 @@ shape_named h g n =
       total = content_is h 1 (lit< tt) g.total n.total;
       angles = content_is h 2 (lit< tt) g.angles n.angles;
       rights = content_is h 3 (lit< tt) g.rights n.rights;
+      remark = ap (option_map (λ c. c.now)) n.remark ∙ h.slot 4 (lit< tt);
       sum = ap (option_map (λ c. c.now)) n.sum ∙ h.slot 5 (lit< tt);
+      place = placed_is h g.at n.place;
     }
 
 -- slots that the walk met, with 6 where one is absent: the walk's answer

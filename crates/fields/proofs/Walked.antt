@@ -3,7 +3,7 @@
 use mathlib.Core.Path.{◌≡◌, refl, sym, subst, ap, ◌∙◌}
 use mathlib.Core.Bool.{Bool, true, false, ◌&&◌, not}
 use mathlib.Core.List.{List, []}
-use Prim.Native.Nat.{ℕ, zero, suc, ◌+◌, ◌≤◌, ◌<◌}
+use Prim.Native.Nat.{ℕ, zero, suc, ◌+◌, ◌-◌, ◌≤◌, ◌<◌}
 use native.Mathlib.Omega.{arith}
 use Rattle.std.specs.Prelude.{Option, Some, None, Ok, Err, is_some, option_map}
 use denote.Bor.{Bor}
@@ -16,19 +16,19 @@ use Rattle.refusals.specs.declared.Refusal.{Refusal}
 use Rattle.refusals.specs.Numbers.{number_of}
 use Rattle.fields.specs.Files.{Field, Walk, walk, tag_ok, has_tag, content_at, add_field, all_there, head_long, last_tag, fault_where, fault_by, field_at, fields_by, walk_by}
 use Rattle.fields.specs.Rules.{slot_of, tag_at, is_met, front_fault, all_met}
-use Rattle.fields.specs.Says.{content_in, SlotsOf, FieldsMet}
+use Rattle.fields.specs.Says.{place_from, content_in, SlotsOf, FieldsMet}
 use Rattle.fields.specs.declared.Slots.{Slots}
 use Rattle.refusals.proofs.Numbered.{some_number}
 use Rattle.fields.proofs.Agree.{tag_from}
-use Rattle.fields.proofs.Turns.{from_end, from_fault, from_met, fault_same, below_is, Passed, passed}
-use Rattle.fields.proofs.Added.{last_add, at_other, at_own, there_by}
+use Rattle.fields.proofs.Turns.{from_end, from_fault, from_met, fault_same, below_is, Passed, passed, content_size}
+use Rattle.fields.proofs.Added.{end_from, end_add, last_add, at_other, place_other, at_own, place_own, there_by}
 
 -- ---- slots
 abbrev pub none_met : Slots
-none_met = record { slots = replicate 8 None }
+none_met = record { slots = replicate 8 None; at = replicate 8 0 }
 
 none_held : (k : Bool) → SlotsOf k [] none_met
-none_held k = record { slot = λ i h. ap (option_map (λ c. c.now)) (get_or-replicate 8 i None None h) }
+none_held k = record { slot = λ i h. ap (option_map (λ c. c.now)) (get_or-replicate 8 i None None h); place = λ i h. get_or-replicate {A = ℕ} 8 i 0 0 h }
 
 -- a slot's content tells whether the field is there
 module _ {k : Bool} {fs : List Field} {f : Slots} (h : SlotsOf k fs f) (i : ℕ) (l : i < 8) where
@@ -55,8 +55,10 @@ pub record Going (o k : Bool) (s r : List ℕ) (f : Slots) (low : ℕ) : Type 0 
   pub enough : length r < fuel
   pub rest : walk_by o k s ≡ fields_by o fuel k fs r
   pub last : low ≡ pick o (last_tag fs) 0
+  pub ends : length s ≡ end_from 0 fs + length r
   pub slots : SlotsOf k fs f
   pub long : length f.slots ≡ 8
+  pub long_at : length f.at ≡ 8
 
 zero_low : (o : Bool) → ◌≡◌ {A = ℕ} 0 (pick o 0 0)
 zero_low true = refl
@@ -70,12 +72,18 @@ going_start o k s =
       enough = omega arith;
       rest = refl;
       last = zero_low o;
+      ends = omega arith;
       slots = none_held k;
       long = refl;
+      long_at = refl;
     }
 
 module _ {o k : Bool} {s r : List ℕ} {f : Slots} {low : ℕ} (g : Going o k s r f low) where
-  -- the tag at the front of what is left, with its slot, and the field
+  -- where the content of the field at the front of what is left starts
+  abbrev place : ℕ
+  place = length s - length r + 3
+
+  -- its tag, with its slot, and the fault
   abbrev t : ℕ
   t = get_or r 0 0
 
@@ -136,9 +144,22 @@ module _ {o k : Bool} {s r : List ℕ} {f : Slots} {low : ℕ} (g : Going o k s 
       new : has_tag t g.fs ≡ false
       new = sym (seen_is p.tag) ∙ p.new
 
+      place_is : place ≡ place_from 0 t (add_field g.fs (field_at r))
+      place_is = let e : place ≡ end_from 0 g.fs + 3 = omega (arith, g.ends) in e ∙ sym (place_own (field_at r) 0 g.fs new)
+
+      places_on : (j : ℕ) → j < 8 → get_or (set f.at slot place) j 0 ≡ place_from 0 (tag_at k j) (add_field g.fs (field_at r))
+      places_on j h = go (eqb j slot) refl
+        where
+          go : (b : Bool) → eqb j slot ≡ b → get_or (set f.at slot place) j 0 ≡ place_from 0 (tag_at k j) (add_field g.fs (field_at r))
+          go true e = rw (eqb-true j slot e, get_or-set_same f.at slot place 0 (omega (arith, g.long_at, slot_below)), slot_tag) place_is
+          go false e =
+              let no = eqb-false j slot e in
+              rw (get_or-set_other f.at slot j place 0 no)
+              (g.slots.place j h ∙ sym (place_other (tag_at k j) (field_at r) (ne_eqb (tag_at k j) t (omega (arith, no, slot_tag))) 0 g.fs))
+
       module _ (c : Bor (List ℕ)) (content : c.now ≡ (field_at r).content) where
         abbrev on : Slots
-        on = record { slots = set f.slots slot (Some c) }
+        on = record { slots = set f.slots slot (Some c); at = set f.at slot place }
 
         slots_on : (j : ℕ) → j < 8 → content_in on j ≡ content_at (tag_at k j) (add_field g.fs (field_at r))
         slots_on j h = go (eqb j slot) refl
@@ -161,14 +182,16 @@ module _ {o k : Bool} {s r : List ℕ} {f : Slots} {low : ℕ} (g : Going o k s 
               enough = omega (arith, g.enough, m, length-drop (3 + head_long r) r, here);
               rest = rest_from l m ∙ from_met o l k g.fs r left (eq-eqb _ 0 (fault_is ∙ sym ok));
               last = ap (λ (x : ℕ). pick o x 0) (sym (last_add g.fs (field_at r)));
-              slots = record { slot = slots_on };
+              ends = omega (arith, g.ends, end_add 0 g.fs (field_at r), content_size r p.size, p.size, length-drop (3 + head_long r) r);
+              slots = record { slot = slots_on; place = places_on };
               long = length-set f.slots slot (Some c) ∙ g.long;
+              long_at = length-set f.at slot place ∙ g.long_at;
             }
 
-      -- a field met: its slot and content, and the walk goes on behind it
-      pub going_met : (i : ℕ) (c : Bor (List ℕ)) (b : List ℕ) (x : ℕ) → i ≡ slot → c.now ≡ (field_at r).content → b ≡ drop (3 + head_long r) r → x ≡ pick o t 0
-          → Going o k s b (record { slots = set f.slots i (Some c) }) x
-      going_met i c b x ei ec eb ex = rw (ei, eb, ex) (going_on c ec)
+      -- a field met: its slot, content and place, and the walk goes on behind it
+      pub going_met : (i : ℕ) (c : Bor (List ℕ)) (b : List ℕ) (a x : ℕ) → i ≡ slot → c.now ≡ (field_at r).content → b ≡ drop (3 + head_long r) r
+          → a ≡ place → x ≡ pick o t 0 → Going o k s b (record { slots = set f.slots i (Some c); at = set f.at i a }) x
+      going_met i c b a x ei ec eb ea ex = rw (ei, eb, ea, ex) (going_on c ec)
 
   -- the end of the file
   pub going_done : length r ≡ 0 → FieldsMet o k s (Ok f)

@@ -94,16 +94,18 @@ fn first_tag(shape: bool) -> u8
     if shape { 0x11 } else { 0x01 }
 }
 
-/// The content of each field of a file, by the field's slot. Slots 0 to 7 are
-/// those of tags 01 to 08 in a plate list, 0 to 5 those of 11 to 16 in a shape
-/// file.
-// An array: each kind of file names its fields in its own way.
+/// The content of each field of a file, by the field's slot, and where it
+/// starts in the file; 0 where there is none. Slots 0 to 7 are those of tags 01
+/// to 08 in a plate list, 0 to 5 those of 11 to 16 in a shape file.
+// Arrays: each kind of file names its fields in its own way.
 #[derive(Clone, Copy)]
 pub struct Slots<'a> {
     pub slots: [Option<&'a [u8]>; 8],
+    pub at: [usize; 8],
 }
 
-/// The contents of a plate list's fields, but for the remark's.
+/// The contents of a plate list's fields, and where each starts, by slot.
+// An array: as in `Slots`.
 #[derive(Clone, Copy)]
 pub struct ListFields<'a> {
     pub revision: &'a [u8],
@@ -111,18 +113,23 @@ pub struct ListFields<'a> {
     pub ends: &'a [u8],
     pub order: &'a [u8],
     pub outer: &'a [u8],
+    pub remark: Option<&'a [u8]>,
     pub limits: Option<&'a [u8]>,
     pub prices: Option<&'a [u8]>,
+    pub at: [usize; 8],
 }
 
-/// The contents of a shape file's fields, but for the remark's.
+/// The contents of a shape file's fields, and where each starts, by slot.
+// An array: as in `Slots`.
 #[derive(Clone, Copy)]
 pub struct ShapeFields<'a> {
     pub revision: &'a [u8],
     pub total: &'a [u8],
     pub angles: &'a [u8],
     pub rights: &'a [u8],
+    pub remark: Option<&'a [u8]>,
     pub sum: Option<&'a [u8]>,
+    pub at: [usize; 8],
 }
 
 impl<'a> Slots<'a> {
@@ -131,15 +138,17 @@ impl<'a> Slots<'a> {
         ensures { ListThere self.entry result }
     {
         let absent = Refusal::FieldAbsent;
-        let [revision, posts, ends, order, outer, _, limits, prices] = self.slots;
+        let [revision, posts, ends, order, outer, remark, limits, prices] = self.slots;
         Ok(ListFields {
             revision: revision.ok_or(absent)?,
             posts: posts.ok_or(absent)?,
             ends: ends.ok_or(absent)?,
             order: order.ok_or(absent)?,
             outer: outer.ok_or(absent)?,
+            remark,
             limits,
             prices,
+            at: self.at,
         })
     }
 
@@ -148,13 +157,15 @@ impl<'a> Slots<'a> {
         ensures { ShapeThere self.entry result }
     {
         let absent = Refusal::FieldAbsent;
-        let [revision, total, angles, rights, _, sum, ..] = self.slots;
+        let [revision, total, angles, rights, remark, sum, ..] = self.slots;
         Ok(ShapeFields {
             revision: revision.ok_or(absent)?,
             total: total.ok_or(absent)?,
             angles: angles.ok_or(absent)?,
             rights: rights.ok_or(absent)?,
+            remark,
             sum,
+            at: self.at,
         })
     }
 
@@ -238,13 +249,18 @@ fn lowest_after(in_order: bool, tag: u8) -> u8
 fn walk(s: &[u8], shape: bool, in_order: bool) -> Result<Slots<'_>, Refusal>
     ensures { FieldsMet in_order shape s.now result }
 {
-    let mut met = Slots { slots: [None; 8] };
+    let mut met = Slots {
+        slots: [None; 8],
+        at: [0; 8],
+    };
     let mut lowest = 0;
     let mut rest = s;
     // A `while`: each field says how long it is, so no iterator gives them.
     while let [tag, ..] = rest {
         let field = step(rest, shape, in_order, met, lowest)?;
         met.slots[field.slot] = Some(field.content);
+        // `rest` still begins with the field's head, three bytes.
+        met.at[field.slot] = s.len() - rest.len() + 3;
         lowest = lowest_after(in_order, *tag);
         rest = field.rest;
     }

@@ -119,6 +119,7 @@ pub fn read_shape<'a>(list: PlateList<'a>, bytes: &'a [u8]) -> Result<ShapeFile<
         angles,
         rights,
         sum,
+        ..
     } = walk_shape(bytes)?;
     let darts = list.plate.darts;
     if angles.len() != darts || rights.len() != darts {

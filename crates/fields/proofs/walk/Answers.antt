@@ -21,7 +21,7 @@ loop-rest-smaller c =
 pub loop-rest-preserved : goal.loop-rest-preserved
 loop-rest-preserved c =
     let m = c.in_ok-field.ensures in
-    going_met c.loop-rest.invariant c.in-len1-up.len_at_least m.number _ _ _ _ m.met.slot m.met.content m.met.rest c.lowest_after-lowest.ensures
+    going_met c.loop-rest.invariant c.in-len1-up.len_at_least m.number _ _ _ _ _ m.met.slot m.met.content m.met.rest (omega arith) c.lowest_after-lowest.ensures
 
 pub returns : goal.returns
 returns c = going_done c.loop-rest.invariant (omega arith)
