@@ -2,10 +2,11 @@
 use mathlib.Core.Path.{◌≡◌, refl, sym, ap, subst, ◌∙◌}
 use mathlib.Core.Bool.{Bool, true, false}
 use mathlib.Core.List.{List, [], ◌∷◌, ◌++◌, append_assoc}
-use Prim.Native.Nat.{ℕ, suc, ◌≤◌, ◌<◌}
+use Prim.Native.Nat.{ℕ, suc, ◌+◌, ◌-◌, ◌≤◌, ◌<◌}
 use native.Mathlib.Omega.{arith}
 use lib.Dec.{eqb}
-use lib.ListN.{length, length-append}
+use lib.ListN.{length, set, drop, replicate, length-append, length-set}
+use lib.Seq.{drop-drop, drop-set-lt}
 use borrow.Author.Tests.{eq-eqb, ne_eqb}
 use Rattle.finite.specs.Walks.{walk, orbit}
 use Rattle.finite.proofs.Orbit.{stops, goes, short}
@@ -13,7 +14,7 @@ use Rattle.embedding.specs.Steps.{next_of}
 use Rattle.embedding.proofs.Labelling.{opened}
 use Rattle.plates.specs.Text.{Entry, entry}
 use Rattle.plates.specs.Lines.{line}
-use Rattle.texts.specs.Plan.{laid, FaceRoom, FaceLaid}
+use Rattle.texts.specs.Plan.{laid, no_turn, LaidIn, FaceRoom, FaceLaid}
 use Rattle.texts.specs.declared.planning.Turn.{Turn}
 
 pub laid_long : (ts : List Turn) → length (laid ts) ≡ length ts
@@ -28,6 +29,18 @@ pub line_long : (ds : List ℕ) → length (line [] [] ds) ≡ length ds
 line_long [] = refl
 line_long (d ∷ []) = refl
 line_long (d ∷ (e ∷ ds)) = ap suc (line_long (e ∷ ds))
+
+-- the first blank place laid
+pub place_more : {ts : List Turn} {count : ℕ} (t : Turn) → LaidIn ts count → count < 256 → LaidIn (set ts count t) (count + 1)
+place_more {ts} {count} t h l =
+    let left : 256 - count ≡ suc (256 - (count + 1)) = omega arith in
+    record {
+      most = omega arith;
+      long = length-set ts count t ∙ h.long;
+      behind = drop-set-lt (count + 1) ts count t (omega arith)
+          ∙ sym (drop-drop 1 count ts)
+          ∙ ap (drop 1) (h.behind ∙ ap (λ (k : ℕ). replicate k no_turn) left);
+    }
 
 -- a face's walk at dart d: its line is laid but for what is left of the walk
 pub record Walking (next : List ℕ) (n start : ℕ) (q₀ q : List Turn) (d : ℕ) : Type 0 where

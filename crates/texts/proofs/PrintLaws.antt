@@ -1,6 +1,6 @@
 -- Laws of printing: words as runs of one digit, lengths, entries one behind the other. Assumes nothing.
 use mathlib.Core.Path.{◌≡◌, refl, sym, ap, subst, ◌∙◌}
-use mathlib.Core.Bool.{Bool, true, false}
+use mathlib.Core.Bool.{Bool, true}
 use mathlib.Core.List.{List, [], ◌∷◌, ◌++◌, append_assoc, append-nil}
 use Prim.Native.Nat.{ℕ, zero, suc, ◌+◌, ◌*◌, ◌/◌, ◌%◌, ◌^◌, ◌≤◌, ◌<◌, min, max}
 use native.Mathlib.Decide.{ℕ_discrete}
@@ -25,7 +25,7 @@ use Rattle.plates.specs.Listing.{decimal}
 use Rattle.plates.proofs.ListingText.{decimal_one_long, decimal_more_long, byte_written}
 use Rattle.plates.specs.Text.{Entry, entry, bend_digits, word_text, angle_text, entry_text, text_of}
 use Rattle.plates.specs.Lines.{darts_of}
-use Rattle.texts.specs.Plan.{laid}
+use Rattle.texts.specs.Plan.{laid, no_turn}
 use Rattle.texts.specs.Prints.{count_word, count_entries, entry_of, bends_of, entry_long, long_up_to, EntryRoom, PrintRoom}
 use Rattle.texts.specs.declared.planning.Turn.{Turn}
 use Rattle.texts.specs.declared.entries.Entry.{Entry as Held}
@@ -131,9 +131,6 @@ count_append : (a r : List ℕ) (xs ys : List Entry) → count_entries a r (xs +
 count_append a r [] ys = refl
 count_append a r (x ∷ xs) ys = ap (λ (l : List Entry). entry x.dart (count_word r x.dart) (get_or a x.dart 0) x.ends ∷ l) (count_append a r xs ys)
 
-abbrev none_turn : Turn
-none_turn = record { dart = 0; last = false }
-
 module _ (a r : List ℕ) where
   abbrev text : List Turn → List ℕ
   text ts = text_of (count_entries a r (laid ts))
@@ -146,12 +143,12 @@ module _ (a r : List ℕ) where
 
   module _ (ts : List Turn) (i : ℕ) (l : i < length ts) where
     abbrev t : Turn
-    t = get_or ts i none_turn
+    t = get_or ts i no_turn
 
     pub one_more : text (take (i + 1) ts) ≡ text (take i ts) ++ turn_text t
     one_more =
         ap (λ (k : ℕ). text (take k ts)) (add-one i)
-        ∙ ap text (take-suc ts i none_turn l)
+        ∙ ap text (take-suc ts i no_turn l)
         ∙ text_parts (take i ts) (t ∷ [])
         ∙ ap (λ (x : List ℕ). text (take i ts) ++ x) (append-nil (turn_text t))
 
@@ -173,10 +170,10 @@ pub record Printing (a r : List ℕ) (ts : List Turn) (out₀ out : List ℕ) (a
 
 module _ {a r : List ℕ} {ts : List Turn} {out₀ out : List ℕ} {at i : ℕ} (counted : Counted a r) (room : PrintRoom ts a r (length out₀)) (done : Printing a r ts out₀ out at i) (l : i < length ts) where
   abbrev turn : Turn
-  turn = get_or ts i none_turn
+  turn = get_or ts i no_turn
 
   pub d_below : turn.dart < length r
-  d_below = room.below i none_turn l
+  d_below = room.below i no_turn l
 
   even : length r % 2 ≡ 0
   even = omega (arith, counted.same_length, counted.even_length)

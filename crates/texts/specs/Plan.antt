@@ -1,5 +1,5 @@
 -- The plan of a plate's text: its darts in turn, and which of them end a line.
-use Rattle.std.specs.Prelude.{◌≡◌, Bool, List, [], ◌∷◌, ◌++◌, ℕ, ◌+◌, ◌≤◌, ◌<◌, length, get_or, take}
+use Rattle.std.specs.Prelude.{◌≡◌, Bool, false, List, [], ◌∷◌, ◌++◌, ℕ, ◌+◌, ◌-◌, ◌≤◌, ◌<◌, length, get_or, take, drop, replicate}
 use Rattle.finite.specs.Walks.{orbit, OneToOne}
 use Rattle.embedding.specs.Steps.{next_of}
 use Rattle.embedding.specs.Read.{lead, face_number}
@@ -17,6 +17,16 @@ refill F A (e ∷ es) = entry e.dart (F e.dart) (A e.dart) e.ends ∷ refill F A
 abbrev pub laid : List Turn → List Entry
 laid [] = []
 laid (t ∷ ts) = entry t.dart [] 0 t.last ∷ laid ts
+
+-- a place for a turn that is not laid
+abbrev pub no_turn : Turn
+no_turn = record { dart = 0; last = false }
+
+-- of 256 places the first are laid, and the others are blank
+pub record LaidIn (turns : List Turn) (count : ℕ) : Type 0 where
+  pub most : count ≤ 256
+  pub long : length turns ≡ 256
+  pub behind : drop count turns ≡ replicate (256 - count) no_turn
 
 -- room for the face of a dart
 pub record FaceRoom (next : List ℕ) (n start : ℕ) (q : List Turn) : Type 0 where

@@ -1,7 +1,6 @@
 //! The faces of a plate in the sequence of its text: the outer face first, the others by smallest dart.
-ghost use Rattle.std.specs.Prelude.{◌≡◌, ◌<◌, ◌≤◌, List, [], ◌∷◌, ◌++◌, length, take};
+ghost use Rattle.std.specs.Prelude.{◌≡◌, ◌<◌, [], ◌∷◌, ◌++◌, length};
 ghost use Rattle.embedding.specs.Read.{meant, place_of};
-ghost use Rattle.texts.specs.declared.planning.Turn.{Turn};
 ghost use Rattle.texts.specs.Plan.{FaceRoom, FaceLaid, NumberFits, NumberLaid, PlanHeld};
 
 use embedding::Plate;
@@ -15,19 +14,34 @@ pub struct Turn {
 }
 
 /// The turns laid so far. By hand: the library stands on std alone, which has no list of fixed capacity.
-#[derive(Drop)]
+#[derive(Clone, Copy)]
 pub struct Laid {
     turns: [Turn; 256],
     count: usize,
 }
 
-// Clauses see the turns.
+// Clauses see the turns. The places behind them are blank, so that the turns give the fields back, as `Copy` asks.
 impl Model for Laid {
+    ghost use Rattle.std.specs.Prelude.{List, ◌++◌, ◌-◌, ◌≤◌, length, take, replicate};
+    ghost use Rattle.std.proofs.Common.{ap, sym, subst, ◌∙◌, take-append-drop, length-take-le};
+    ghost use Rattle.texts.specs.declared.planning.Turn.{Turn};
+    ghost use Rattle.texts.specs.Plan.{no_turn, LaidIn};
+
     ghost Value = { List Turn };
 
     ghost view = { λ q. take q.count q.turns };
 
-    ghost invariant = { λ q. q.count ≤ 256 };
+    ghost invariant = { λ q. LaidIn q.turns q.count };
+
+    ghost inverse = { λ ts. record { turns = ts ++ replicate (256 - length ts) no_turn; count = length ts } };
+
+    ghost inverse_ok = { λ q h.
+        let long = length-take-le q.count q.turns (subst (λ n. q.count ≤ n) (sym h.long) h.most) in
+        λ i. record {
+          turns = (ap (λ n. take q.count q.turns ++ replicate (256 - n) no_turn) long
+              ∙ ap (λ r. take q.count q.turns ++ r) (sym h.behind) ∙ take-append-drop q.count q.turns) i;
+          count = long i;
+        } };
 }
 
 impl Laid {
