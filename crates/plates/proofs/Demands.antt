@@ -34,12 +34,16 @@ same_shape s t a r b q e h x m y n =
 pub list_longest : (s : List ℕ) → list_fault s ≡ 0 → length s ≤ 876
 list_longest s e = Longest.list_longest s (list_walked s e)
 
-pub file_longest : (s : List ℕ) → list_fault s ≡ 0 → file_long s ≤ 535
-file_longest s e = omega (arith, (list_fields s (list_walked s e)).ends_most, seven (is_priced s))
+-- of a list that passed the walk
+pub walked_longest : (s : List ℕ) → (walk_all false s).number ≡ 0 → file_long s ≤ 535
+walked_longest s e = omega (arith, (list_fields s e).ends_most, seven (is_priced s))
   where
     seven : (b : Bool) → when b 7 ≤ 7
     seven true = omega arith
     seven false = omega arith
+
+pub file_longest : (s : List ℕ) → list_fault s ≡ 0 → file_long s ≤ 535
+file_longest s e = walked_longest s (list_walked s e)
 
 pub files : Files
 files =

@@ -12,11 +12,11 @@ use Rattle.plates.specs.Shapes.{total}
 use Rattle.plates.specs.Files.{Field, walk_all, two, field, count_bytes, sum_bytes, file_bytes}
 use Rattle.plates.specs.Says.{file_long}
 use Rattle.plates.specs.Encodes.{FileGiven, FileWritten}
-use Rattle.plates.specs.declared.reading.PlateList.{PlateList}
-use Rattle.plates.proofs.HeldLists.{list_laid, list_few, list_darts}
+use Rattle.plates.specs.declared.reading.WalkedList.{WalkedList}
+use Rattle.plates.proofs.HeldLists.{walked_laid, walked_few, walked_darts}
 use Rattle.plates.proofs.ShapeFile.{sum_long, bytes_long}
 
-module _ (l : PlateList) (k : Counts) (g : FileGiven l.plate.darts k.angles.now k.rights.now) where
+module _ (l : WalkedList) (k : Counts) (g : FileGiven (length l.fields.ends.now) k.angles.now k.rights.now) where
   abbrev fs : List Field
   fs = (walk_all false l.bytes.now).fields
 
@@ -30,20 +30,20 @@ module _ (l : PlateList) (k : Counts) (g : FileGiven l.plate.darts k.angles.now 
   r = k.rights.now
 
   pub revision_two : length c ≡ 2
-  revision_two = ap length l.contents.revision ∙ (list_laid l).revision
+  revision_two = ap length l.contents.revision ∙ (walked_laid l).revision
 
   pub angles_few : length a ≤ 256
-  angles_few = omega (arith, g.angles_many, list_few l)
+  angles_few = omega (arith, g.angles_many, walked_few l)
 
   pub rights_many : length r ≡ length a
   rights_many = k.counted.same_length
 
   -- there is room for the four fields and the sum
   pub room_is : 16 + (length a + length r) + length (sum_bytes fs r) ≡ file_long l.bytes.now
-  room_is = omega (arith, list_darts l, (list_laid l).ends_even, g.angles_many, rights_many, sum_long fs r)
+  room_is = omega (arith, walked_darts l, (walked_laid l).ends_even, g.angles_many, rights_many, sum_long fs r)
 
   long_same : length (file_bytes fs a r) ≡ file_long l.bytes.now
-  long_same = omega (arith, bytes_long fs a r (list_laid l).revision, sum_long fs r, room_is)
+  long_same = omega (arith, bytes_long fs a r (walked_laid l).revision, sum_long fs r, room_is)
 
   abbrev rows : List ℕ → List ℕ → List ℕ
   rows v b = field 17 v ++ (field 18 b ++ (field 19 a ++ field 20 r))

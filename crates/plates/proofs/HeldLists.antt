@@ -8,14 +8,18 @@ use denote.Bor.{Bor}
 use lib.Dec.{eqb}
 use lib.ListN.{length}
 use borrow.Author.Tests.{eq-eqb, ne_eqb}
-use Rattle.std.specs.Prelude.{Option, Some, None, is_some, unwrap_or, option_map}
-use Rattle.fields.specs.Says.{ListFieldsOf}
+use Rattle.std.specs.Prelude.{Option, Some, None, is_some, unwrap_or, option_map, Ok}
+use Rattle.fields.specs.Says.{ListFieldsOf, ShapeWalked}
 use Rattle.fields.specs.declared.ListFields.{ListFields}
+use Rattle.fields.specs.declared.ShapeFields.{ShapeFields}
 use Rattle.fields.proofs.Added.{unwrap_or-content_at, there_by, content_by}
 use Rattle.embedding.proofs.Holding.{held_darts}
-use Rattle.plates.specs.Plates.{darts, strips}
+use Rattle.plates.specs.Plates.{first_of, when, darts, strips}
 use Rattle.plates.specs.Shapes.{prices_ok}
 use Rattle.plates.specs.Files.{Field, has_tag, content_of, content_at, walk_all, plate_in, limits_fit, prices_fit, plate_of, prices_fit_by}
+use Rattle.plates.specs.Says.{word, angles_in, rights_in}
+use Rattle.plates.specs.Read.{ShapeHeld, shape_file_fault}
+use Rattle.plates.specs.declared.reading.WalkedList.{WalkedList}
 use Rattle.plates.specs.declared.reading.PlateList.{PlateList}
 use Rattle.plates.proofs.Contents as Contents
 use Rattle.plates.proofs.Lists.{list_walked}
@@ -78,6 +82,36 @@ contents_lengths s {f} e h =
     let laid = Contents.list_fields s e in
     (omega (arith, laid.ends_most, ap length h.ends), rw h.ends laid.ends_even, omega (arith, laid.order_most, ap length h.order))
 
+-- the lengths of the fields of a list that passed the walk
+module _ (l : WalkedList) where
+  pub walked_laid : Contents.ListFields (walk_all false l.bytes.now).fields
+  walked_laid = Contents.list_fields l.bytes.now l.walked
+
+  pub walked_darts : length l.fields.ends.now ≡ darts (plate_of l.bytes.now)
+  walked_darts = ap length l.contents.ends
+
+  pub walked_few : length l.fields.ends.now ≤ 256
+  walked_few = omega (arith, walked_darts, walked_laid.ends_most)
+
+-- 17 for a shape file with more or fewer angles or right bends than the list has darts
+module _ (l : WalkedList) {t : List ℕ} {g : ShapeFields} (h : ShapeWalked t (Ok g)) where
+  abbrev many_as : List ℕ → Bool
+  many_as x = eqb (length x) (length l.fields.ends.now)
+
+  long_wrong : false ≡ (many_as g.angles.now && many_as g.rights.now) → 17 ≡ shape_file_fault l.bytes.now t
+  long_wrong q =
+      let p = plate_of l.bytes.now in
+      let same : (many_as g.angles.now && many_as g.rights.now) ≡ (eqb (length (angles_in t)) (darts p) && eqb (length (rights_in t)) (darts p)) =
+          λ i. eqb (length (h.fields.angles i)) (walked_darts l i) && eqb (length (h.fields.rights i)) (walked_darts l i) in
+      let wrong = q ∙ same in
+      λ i. first_of (h.number i) (first_of (when (not (wrong i)) 17) (when (not (eqb (word (content_of 1 (walk_all false l.bytes.now).fields)) (word (content_of 17 (walk_all true t).fields)))) 18))
+
+  pub angles_differ : (length g.angles.now ≡ length l.fields.ends.now → ⊥) → 17 ≡ shape_file_fault l.bytes.now t
+  angles_differ n = long_wrong (ap (λ (b : Bool). b && many_as g.rights.now) (sym (ne_eqb _ _ n)))
+
+  pub rights_differ : length g.angles.now ≡ length l.fields.ends.now → (length g.rights.now ≡ length l.fields.ends.now → ⊥) → 17 ≡ shape_file_fault l.bytes.now t
+  rights_differ e n = long_wrong (sym (ne_eqb _ _ n) ∙ ap (λ (b : Bool). b && many_as g.rights.now) (sym (eq-eqb _ _ e)))
+
 -- the plate of a list
 module _ (l : PlateList) where
   abbrev s : List ℕ
@@ -94,3 +128,9 @@ module _ (l : PlateList) where
 
   pub list_even : l.plate.darts % 2 ≡ 0
   list_even = ap (λ (n : ℕ). n % 2) list_darts ∙ list_laid.ends_even
+
+  -- counts for it, read of the same bytes
+  pub held_many : {r t : List ℕ} {g : ShapeFields} → r ≡ l.bytes.now → ShapeHeld r t g → (length g.angles.now ≡ l.plate.darts) × (length g.rights.now ≡ l.plate.darts)
+  held_many e h =
+      let darts-same = ap (λ (s : List ℕ). darts (plate_of s)) e ∙ sym list_darts in
+      (ap length h.fields.angles ∙ h.angles_many ∙ darts-same, ap length h.fields.rights ∙ h.rights_many ∙ darts-same)

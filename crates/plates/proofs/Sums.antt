@@ -11,31 +11,32 @@ use Rattle.plates.specs.Plates.{when}
 use Rattle.plates.specs.Shapes.{same}
 use Rattle.plates.specs.Files.{Field, has_tag, content_of, walk_all, four, field, prices_of, sum_of, sum_bytes, sum_field}
 use Rattle.plates.specs.Says.{file_long, rights_in, sum_true, sum_true_by}
+use Rattle.plates.specs.declared.reading.WalkedList.{WalkedList}
 use Rattle.plates.specs.declared.reading.PlateList.{PlateList}
 use Rattle.plates.specs.declared.reading.ShapeFile.{ShapeFile}
 use Rattle.fields.specs.Writing.{Written}
 use Rattle.fields.proofs.Puts.{written_none}
 use Rattle.shapes.specs.Rates.{rates, Fair}
 use Rattle.plates.proofs.Lists.{list_fair}
-use Rattle.plates.proofs.Demands.{file_longest}
+use Rattle.plates.proofs.Demands.{walked_longest}
 use Rattle.plates.proofs.ShapeFile.{sum_long}
-use Rattle.plates.proofs.HeldLists.{there_is, content_is, no_content, list_darts, list_laid}
+use Rattle.plates.proofs.HeldLists.{there_is, content_is, no_content, walked_darts, walked_laid}
 
-module _ (l : PlateList) where
+module _ (l : WalkedList) where
   abbrev fs : List Field
   fs = (walk_all false l.bytes.now).fields
 
   is_priced : {o : Option (Bor (List ℕ))} → l.fields.prices ≡ o → is_some (option_map (λ c. c.now) o) ≡ has_tag 8 fs
   is_priced e = there_is fs 8 _ l.contents.prices e
 
-  long_by : (b : Bool) → b ≡ has_tag 8 fs → 16 + 2 * l.plate.darts + when b 7 ≡ file_long l.bytes.now
-  long_by b e = omega (arith, list_darts l, (list_laid l).ends_even, ap (λ (b : Bool). when b 7) e)
+  long_by : (b : Bool) → b ≡ has_tag 8 fs → 16 + 2 * length l.fields.ends.now + when b 7 ≡ file_long l.bytes.now
+  long_by b e = omega (arith, walked_darts l, (walked_laid l).ends_even, ap (λ (b : Bool). when b 7) e)
 
   -- the length of a file
-  pub long_priced : {c : Bor (List ℕ)} → l.fields.prices ≡ Some c → 16 + 2 * l.plate.darts + 7 ≡ file_long l.bytes.now
+  pub long_priced : {c : Bor (List ℕ)} → l.fields.prices ≡ Some c → 16 + 2 * length l.fields.ends.now + 7 ≡ file_long l.bytes.now
   long_priced e = long_by true (is_priced e)
 
-  pub long_plain : l.fields.prices ≡ None → 16 + 2 * l.plate.darts ≡ file_long l.bytes.now
+  pub long_plain : l.fields.prices ≡ None → 16 + 2 * length l.fields.ends.now ≡ file_long l.bytes.now
   long_plain e = omega (arith, long_by false (is_priced e))
 
   -- its last field
@@ -53,9 +54,10 @@ module _ (l : PlateList) where
 
   -- a file is short
   pub long_most : file_long l.bytes.now ≤ 535
-  long_most = file_longest l.bytes.now l.accepted
+  long_most = walked_longest l.bytes.now l.walked
 
-  -- limits and prices as they are searched by
+-- limits and prices as they are searched by
+module _ (l : PlateList) where
   pub held_fair : {ls ps : List ℕ} → ps ≡ prices_of l.bytes.now → Fair (rates ls ps)
   held_fair {ls} e = subst (λ (ps : List ℕ). Fair (rates ls ps)) (sym e) (record { some_price = (list_fair l.bytes.now l.accepted).some_price; price_most = (list_fair l.bytes.now l.accepted).price_most })
 

@@ -6,7 +6,7 @@ ghost use Rattle.plates.specs.Answers.{shaped_of};
 ghost use Rattle.plates.specs.Says.{file_long};
 ghost use Rattle.plates.specs.Encodes.{FileGiven, FileWritten, FileSays};
 
-use crate::reading::PlateList;
+use crate::reading::{PlateList, WalkedList};
 use fields::writing::{four_bytes, two_bytes, write_field};
 use refusals::Refusal;
 use shapes::counts::Counts;
@@ -19,12 +19,12 @@ pub struct Written {
     pub bends: u32,
 }
 
-impl PlateList<'_> {
-    // The length of the list's shape file.
-    fn file_long(&self) -> usize
+impl WalkedList<'_> {
+    /// The length of the list's shape file.
+    pub fn file_long(&self) -> usize
         ensures { result ≡ file_long self.now.bytes.now }
     {
-        let plain = 16 + 2 * self.plate.darts;
+        let plain = 16 + 2 * self.fields.ends.len();
         match self.fields.prices {
             Some(_) => plain + 7,
             None => plain,
@@ -43,10 +43,10 @@ impl PlateList<'_> {
         }
     }
 
-    // Writes the shape file of these counts, and gives its length.
+    /// Writes the shape file of these counts, and gives its length.
     #[tactic(auto, using(crate::proofs::FileRows::lengths))]
-    fn write_fields(&self, counts: Counts, out: &mut [u8]) -> usize
-        requires given { FileGiven self.now.plate.darts counts.angles.now counts.rights.now }
+    pub fn write_fields(&self, counts: Counts, out: &mut [u8]) -> usize
+        requires given { FileGiven (length self.now.fields.ends.now) counts.angles.now counts.rights.now }
         requires enough { file_long self.now.bytes.now ≤ length out.old }
         ensures { FileWritten self.now.bytes.now counts.entry.angles.now counts.entry.rights.now out.old out.new result }
     {
@@ -62,7 +62,7 @@ impl PlateList<'_> {
     /// Writes the shape file of counts, an angle and right bends for each dart, or refuses with 16.
     #[tactic(auto, using(crate::proofs::Sums::long_most))]
     pub fn write_file(&self, counts: Counts, out: &mut [u8]) -> Result<Written, Refusal>
-        requires { FileGiven self.now.plate.darts counts.angles.now counts.rights.now }
+        requires { FileGiven (length self.now.fields.ends.now) counts.angles.now counts.rights.now }
         ensures { FileSays self.now.bytes.now counts.entry.angles.now counts.entry.rights.now out.old out.new (shaped_of result) }
     {
         let long = self.file_long();
@@ -75,5 +75,15 @@ impl PlateList<'_> {
             long: long as u32,
             bends: counts.total(),
         })
+    }
+}
+
+impl PlateList<'_> {
+    /// Writes the shape file of counts, an angle and right bends for each dart, or refuses with 16.
+    pub fn write_file(&self, counts: Counts, out: &mut [u8]) -> Result<Written, Refusal>
+        requires { FileGiven self.now.plate.darts counts.angles.now counts.rights.now }
+        ensures { FileSays self.now.bytes.now counts.entry.angles.now counts.entry.rights.now out.old out.new (shaped_of result) }
+    {
+        self.walked().write_file(counts, out)
     }
 }

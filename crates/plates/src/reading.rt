@@ -5,13 +5,23 @@ ghost use Rattle.fields.specs.Says.{ListFieldsOf, word};
 ghost use Rattle.embedding.specs.Read.{meant};
 ghost use Rattle.plates.specs.Files.{Field, content_of, content_at, walk_all, list_fault, limits_fit, prices_fit, plate_of, limits_of, prices_of};
 ghost use Rattle.plates.specs.Says.{angles_in, rights_in};
-ghost use Rattle.plates.specs.Read.{shape_file_fault};
+ghost use Rattle.plates.specs.Read.{ShapeHeld, shape_file_fault};
 
 use embedding::{Plate, read_plate};
 use fields::{ListFields, ShapeFields, first, number, walk_list, walk_shape};
 use refusals::Refusal;
 use shapes::counts::Counts;
 use shapes::rates::prices_ok;
+
+/// A plate list that passed the walk: its bytes and the contents of its fields.
+/// Its plate, limits and prices may still be refused.
+#[derive(Clone, Copy)]
+pub struct WalkedList<'a> {
+    pub bytes: &'a [u8],
+    pub fields: ListFields<'a>,
+    pub ghost walked: { (walk_all false bytes.now).number ≡ 0 },
+    pub ghost contents: { ListFieldsOf (walk_all false bytes.now).fields fields },
+}
 
 /// An accepted plate list: its bytes, the contents of its fields and its plate.
 #[derive(Clone, Copy)]
@@ -39,7 +49,43 @@ pub struct ShapeFile<'a> {
     pub ghost sum_said: { option_map (λ c. c.now) sum ≡ content_at 22 (walk_all true bytes.now).fields },
 }
 
+impl<'a> WalkedList<'a> {
+    /// The list, or its walk's refusal: 1 to 6, 29.
+    pub fn new(bytes: &'a [u8]) -> Result<WalkedList<'a>, Refusal>
+        ensures { (fault_of result ≡ (walk_all false bytes.now).number) × IfOk result (λ list. list.bytes.now ≡ bytes.now) }
+    {
+        let fields = walk_list(bytes)?;
+        Ok(WalkedList { bytes, fields })
+    }
+
+    /// The fields of a shape file for the list, or its refusal: 1 to 6, 17, 18, 29.
+    #[tactic(auto, using(crate::proofs::HeldLists::angles_differ, crate::proofs::HeldLists::rights_differ))]
+    pub fn read_shape(&self, bytes: &'a [u8]) -> Result<ShapeFields<'a>, Refusal>
+        ensures { (fault_of result ≡ shape_file_fault self.now.bytes.now bytes.now) × IfOk result (ShapeHeld self.now.bytes.now bytes.now) }
+    {
+        let shape = walk_shape(bytes)?;
+        let darts = self.fields.ends.len();
+        if shape.angles.len() != darts || shape.rights.len() != darts {
+            return Err(Refusal::ShapeLength);
+        }
+        if number(self.fields.revision) != number(shape.revision) {
+            return Err(Refusal::RevisionDiffers);
+        }
+        Ok(shape)
+    }
+}
+
 impl<'a> PlateList<'a> {
+    /// The list as one that passed the walk.
+    pub fn walked(&self) -> WalkedList<'a>
+        ensures { result.bytes.now ≡ self.now.bytes.now }
+    {
+        WalkedList {
+            bytes: self.bytes,
+            fields: self.fields,
+        }
+    }
+
     /// The limits of bends, one for each strip; none where the list has no limits.
     pub fn limits(&self) -> &'a [u8]
         ensures { result.now ≡ limits_of self.now.bytes.now }
@@ -113,26 +159,15 @@ pub fn read_list(bytes: &[u8]) -> Result<PlateList<'_>, Refusal>
 pub fn read_shape<'a>(list: PlateList<'a>, bytes: &'a [u8]) -> Result<ShapeFile<'a>, Refusal>
     ensures { (fault_of result ≡ shape_file_fault list.entry.bytes.now bytes.now) × IfOk result (λ file. (file.list.bytes.now ≡ list.entry.bytes.now) × (file.bytes.now ≡ bytes.now)) }
 {
-    let ShapeFields {
-        revision,
-        total,
-        angles,
-        rights,
-        sum,
-        ..
-    } = walk_shape(bytes)?;
-    let darts = list.plate.darts;
-    if angles.len() != darts || rights.len() != darts {
-        return Err(Refusal::ShapeLength);
-    }
-    if list.revision() != number(revision) {
-        return Err(Refusal::RevisionDiffers);
-    }
+    let shape = list.walked().read_shape(bytes)?;
     Ok(ShapeFile {
         list,
         bytes,
-        total,
-        counts: Counts { angles, rights },
-        sum,
+        total: shape.total,
+        counts: Counts {
+            angles: shape.angles,
+            rights: shape.rights,
+        },
+        sum: shape.sum,
     })
 }

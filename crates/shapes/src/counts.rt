@@ -20,8 +20,8 @@ impl Counts<'_> {
     }
 }
 
-// Each right bend counts once.
-pub(crate) fn total_bends(rights: &[u8]) -> u32
+/// The sum of right bends, of which each counts once.
+pub fn total_bends(rights: &[u8]) -> u32
     requires { length rights.now ≤ 256 }
     ensures { result ≡ total rights.now }
 {

@@ -2,7 +2,7 @@
 use mathlib.Core.Path.{ap, ◌∙◌}
 use Rattle.plates.specs.Files.{two}
 use Rattle.plates.proofs.FileRows.{file_written}
-use Rattle.plates.proofs.reading.PlateList.write_fields.Goals as goal
+use Rattle.plates.proofs.reading.WalkedList.write_fields.Goals as goal
 
 pub returns : goal.returns
 returns c =

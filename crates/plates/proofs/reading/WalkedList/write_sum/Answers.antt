@@ -1,7 +1,7 @@
 -- `write_sum`: the sum in a field of its own, or nothing.
 use Rattle.std.proofs.Common.{arith, ap, length}
 use Rattle.plates.proofs.Sums.{sum_put, sum_left, sum_room}
-use Rattle.plates.proofs.reading.PlateList.write_sum.Goals as goal
+use Rattle.plates.proofs.reading.WalkedList.write_sum.Goals as goal
 
 pub write_field-requires : goal.write_field-requires
 write_field-requires c =
