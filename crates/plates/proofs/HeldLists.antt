@@ -102,7 +102,7 @@ module _ (l : WalkedList) {t : List ℕ} {g : ShapeFields} (h : ShapeWalked t (O
   long_wrong q =
       let p = plate_of l.bytes.now in
       let same : (many_as g.angles.now && many_as g.rights.now) ≡ (eqb (length (angles_in t)) (darts p) && eqb (length (rights_in t)) (darts p)) =
-          λ i. eqb (length (h.fields.angles i)) (walked_darts l i) && eqb (length (h.fields.rights i)) (walked_darts l i) in
+      λ i. eqb (length (h.fields.angles i)) (walked_darts l i) && eqb (length (h.fields.rights i)) (walked_darts l i) in
       let wrong = q ∙ same in
       λ i. first_of (h.number i) (first_of (when (not (wrong i)) 17) (when (not (eqb (word (content_of 1 (walk_all false l.bytes.now).fields)) (word (content_of 17 (walk_all true t).fields)))) 18))
 

@@ -135,7 +135,7 @@ fn prices_fit(fields: ListFields) -> bool
 pub fn read_list(bytes: &[u8]) -> Result<PlateList<'_>, Refusal>
     ensures { (fault_of result ≡ list_fault bytes.now) × IfOk result (λ list. list.bytes.now ≡ bytes.now) }
 {
-    let fields = walk_list(bytes)?;
+    let WalkedList { bytes, fields } = WalkedList::new(bytes)?;
     let plate = read_plate(
         first(fields.posts),
         fields.ends,
