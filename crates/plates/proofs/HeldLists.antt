@@ -98,18 +98,22 @@ module _ (l : WalkedList) {t : List ℕ} {g : ShapeFields} (h : ShapeWalked t (O
   abbrev many_as : List ℕ → Bool
   many_as x = eqb (length x) (length l.fields.ends.now)
 
+  abbrev same_revision : Bool
+  same_revision = eqb (word (content_of 1 (walk_all false l.bytes.now).fields)) (word (content_of 17 (walk_all true t).fields))
+
   long_wrong : false ≡ (many_as g.angles.now && many_as g.rights.now) → 17 ≡ shape_file_fault l.bytes.now t
   long_wrong q =
       let p = plate_of l.bytes.now in
       let same : (many_as g.angles.now && many_as g.rights.now) ≡ (eqb (length (angles_in t)) (darts p) && eqb (length (rights_in t)) (darts p)) =
       λ i. eqb (length (h.fields.angles i)) (walked_darts l i) && eqb (length (h.fields.rights i)) (walked_darts l i) in
       let wrong = q ∙ same in
-      λ i. first_of (h.number i) (first_of (when (not (wrong i)) 17) (when (not (eqb (word (content_of 1 (walk_all false l.bytes.now).fields)) (word (content_of 17 (walk_all true t).fields)))) 18))
+      λ i. first_of (h.number i) (first_of (when (not (wrong i)) 17) (when (not same_revision) 18))
 
   pub angles_differ : (length g.angles.now ≡ length l.fields.ends.now → ⊥) → 17 ≡ shape_file_fault l.bytes.now t
   angles_differ n = long_wrong (ap (λ (b : Bool). b && many_as g.rights.now) (sym (ne_eqb _ _ n)))
 
-  pub rights_differ : length g.angles.now ≡ length l.fields.ends.now → (length g.rights.now ≡ length l.fields.ends.now → ⊥) → 17 ≡ shape_file_fault l.bytes.now t
+  pub rights_differ : length g.angles.now ≡ length l.fields.ends.now → (length g.rights.now ≡ length l.fields.ends.now → ⊥)
+      → 17 ≡ shape_file_fault l.bytes.now t
   rights_differ e n = long_wrong (sym (ne_eqb _ _ n) ∙ ap (λ (b : Bool). b && many_as g.rights.now) (sym (eq-eqb _ _ e)))
 
 -- the plate of a list
@@ -130,7 +134,8 @@ module _ (l : PlateList) where
   list_even = ap (λ (n : ℕ). n % 2) list_darts ∙ list_laid.ends_even
 
   -- counts for it, read of the same bytes
-  pub held_many : {r t : List ℕ} {g : ShapeFields} → r ≡ l.bytes.now → ShapeHeld r t g → (length g.angles.now ≡ l.plate.darts) × (length g.rights.now ≡ l.plate.darts)
+  pub held_many : {r t : List ℕ} {g : ShapeFields} → r ≡ l.bytes.now → ShapeHeld r t g
+      → (length g.angles.now ≡ l.plate.darts) × (length g.rights.now ≡ l.plate.darts)
   held_many e h =
       let darts-same = ap (λ (s : List ℕ). darts (plate_of s)) e ∙ sym list_darts in
       (ap length h.fields.angles ∙ h.angles_many ∙ darts-same, ap length h.fields.rights ∙ h.rights_many ∙ darts-same)
