@@ -17,15 +17,23 @@ use Rattle.book.specs.declared.Entry.{Entry}
 use Rattle.book.specs.Entries.{entry_at, entries, listed_of, latest, entry_of, entries_in}
 
 -- ---- the chains
+and_true : (b : Bool) → (b && true) ≡ b
+and_true true = refl
+and_true false = refl
+
+and_false : (b : Bool) → (b && false) ≡ false
+and_false true = refl
+and_false false = refl
+
 module _ (m : ℕ) where
-  pub listed_any : (r : ℕ) (es : List Entry) → list_any (λ (e : Entry). eqb e.model m && eqb e.revision r) es ≡ is_in r (listed_of m es)
+  pub listed_any : (r : ℕ) (es : List Entry) → list_any (λ (e : Entry). eqb e.revision r && eqb e.model m) es ≡ is_in r (listed_of m es)
   listed_any r [] = refl
   listed_any r (e ∷ es) = rw (eqb_turned e.model m, eqb_turned e.revision r) (by (eqb m e.model) (listed_any r es))
     where
-      by : (b : Bool) → list_any (λ (x : Entry). eqb x.model m && eqb x.revision r) es ≡ is_in r (listed_of m es)
-          → (b && eqb r e.revision) || list_any (λ (x : Entry). eqb x.model m && eqb x.revision r) es ≡ is_in r (pick b (e.revision ∷ listed_of m es) (listed_of m es))
-      by true h = ap (λ (t : Bool). eqb r e.revision || t) h
-      by false h = h
+      by : (b : Bool) → list_any (λ (x : Entry). eqb x.revision r && eqb x.model m) es ≡ is_in r (listed_of m es)
+          → (eqb r e.revision && b) || list_any (λ (x : Entry). eqb x.revision r && eqb x.model m) es ≡ is_in r (pick b (e.revision ∷ listed_of m es) (listed_of m es))
+      by true h = ap₂ ◌||◌ (and_true (eqb r e.revision)) h
+      by false h = ap₂ ◌||◌ (and_false (eqb r e.revision)) h
 
   pub latest_found : (es : List Entry) → option_map (λ (e : Entry). e.revision) (find (λ (e : Entry). eqb e.model m) es) ≡ slice_get (listed_of m es) 0
   latest_found [] = refl

@@ -30,20 +30,23 @@ impl From<[u8; 6]> for Entry {
     }
 }
 
-// Whether some entry is of the model and lists this revision. From the last on, since the last are most likely to. `before` and `model`
-// stand beside each other here and in the two below: a struct of both would be made for one call each.
+// Whether some entry is of the model and lists this revision, which is tested first, since fewer entries have it. From the last on,
+// since the last are most likely to. `before` and `model` stand beside each other here and in the two below: a struct of both would be
+// made for one call each. `inline(never)`, here and in `last_of`: within a larger function the loop took up to 1.7 times as long.
+#[inline(never)]
 fn is_listed(before: &[[u8; 6]], model: u16, revision: u16) -> bool
-    ensures { result ≡ list_any (λ e. (e.model == model) && (e.revision == revision)) (entries_in before.now) }
+    ensures { result ≡ list_any (λ e. (e.revision == revision) && (e.model == model)) (entries_in before.now) }
 {
     before
         .iter()
         .rev()
         .map(|bytes| Entry::from(*bytes))
-        .any(|e| e.model == model && e.revision == revision)
+        .any(|e| e.revision == revision && e.model == model)
 }
 
 // The last entry of the model. A function of its own: the proof of a chain that ends in `find` is found, of one with a `map` behind it
 // not.
+#[inline(never)]
 fn last_of(before: &[[u8; 6]], model: u16) -> Option<Entry>
     ensures { result ≡ find (λ e. e.model == model) (entries_in before.now) }
 {

@@ -5,8 +5,8 @@ use Prim.Native.Nat.{ℕ, ◌+◌, ◌≤◌, ◌<◌}
 use native.Mathlib.Nat.{add-zero}
 use native.Mathlib.Numerals.{add-one}
 use native.Mathlib.Omega.{arith}
-use lib.ListN.{length, take, drop, set, length-append, take-append-drop}
-use lib.Seq.{length-take-le, take_at, drop_at, drop-drop, set_split}
+use lib.ListN.{length, get_or, take, drop, set, length-append, take-append-drop}
+use lib.Seq.{length-take-le, take-length, take_at, drop_at, drop-drop, set_split, paste, paste-suc}
 use Rattle.fields.specs.Files.{two, field}
 use Rattle.fields.specs.Writing.{put_at, Written}
 
@@ -23,6 +23,13 @@ pub put_front : (xs out : List ℕ) → put_at 0 xs out ≡ xs ++ drop (length x
 put_front xs out =
     let e : 0 + length xs ≡ length xs = omega arith in
     ap (λ (n : ℕ). xs ++ drop n out) e
+
+-- `paste` of lib.Seq is a copy as far as it has come: a store takes it on, and all of it is `put_at`
+pub paste_more : (at i : ℕ) (xs out held : List ℕ) → held ≡ paste out at xs i → at + i < length out → i < length xs → set held (at + i) (get_or xs i 0) ≡ paste out at xs (i + 1)
+paste_more at i xs out held e h l = rw (e, add-one) (paste-suc out at xs i 0 h l)
+
+pub paste_all : (at : ℕ) (xs out : List ℕ) → paste out at xs (length xs) ≡ put_at at xs out
+paste_all at xs out = rw (append_assoc, take-length)
 
 -- what stands before, in and behind the bytes put
 module _ (at : ℕ) (xs out : List ℕ) (h : at ≤ length out) where

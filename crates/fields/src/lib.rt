@@ -203,10 +203,10 @@ fn step<'a>(
     s: &'a [u8],
     shape: bool,
     in_order: bool,
-    before: Slots<'a>,
+    before: &Slots<'a>,
     lowest: u8,
 ) -> Result<Met<'a>, Refusal>
-    ensures { FrontIs in_order shape before.entry.slots lowest s.now result }
+    ensures { FrontIs in_order shape before.now.slots lowest s.now result }
 {
     let [tag, high, low, behind @ ..] = s else {
         return Err(Refusal::FieldCut);
@@ -257,7 +257,7 @@ fn walk(s: &[u8], shape: bool, in_order: bool) -> Result<Slots<'_>, Refusal>
     let mut rest = s;
     // A `while`: each field says how long it is, so no iterator gives them.
     while let [tag, ..] = rest {
-        let field = step(rest, shape, in_order, met, lowest)?;
+        let field = step(rest, shape, in_order, &met, lowest)?;
         met.slots[field.slot] = Some(field.content);
         // `rest` still begins with the field's head, three bytes.
         met.at[field.slot] = s.len() - rest.len() + 3;

@@ -22,12 +22,15 @@ pub fn four_bytes(v: u32) -> [u8; 4]
     v.to_be_bytes()
 }
 
-/// Copies `content` into `out` from `at` on: the library's copy, with a promise of the whole memory lent.
+/// Copies `content` into `out` from `at` on.
+// Byte by byte: the library's copy would make the archive need `memmove`, which C callers did not have to give before.
 pub fn copy_at(out: &mut [u8], at: usize, content: &[u8])
     requires { at + length content.now ≤ length out.old }
     ensures { out.new ≡ put_at at content.now out.old }
 {
-    out[at..at + content.len()].copy_from_slice(content);
+    for (i, byte) in content.iter().enumerate() {
+        out[at + i] = *byte;
+    }
 }
 
 /// Writes a field from `at` on, and gives the place behind it.

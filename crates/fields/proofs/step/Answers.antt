@@ -13,7 +13,7 @@ pub returns-then-is_wrong : goal.returns-then-is_wrong
 returns-then-is_wrong c =
     let s = c.args.s.now in
     record {
-      number = wrong_length c.args.in_order c.args.shape (is_met c.args.before.slots (slot_of c.args.shape (get_or s 0 0))) (ltb (get_or s 0 0) c.args.lowest) s (omega arith) (search rules) (search rules) (search rules) (long_told _ _ _ _ _ _ false c.rule_of.ensures (search rules) (c.if-is_wrong.ensures ∙ ap (keeps c.in_ok-rule.rule) c.joined-long.ensures));
+      number = wrong_length c.args.in_order c.args.shape (is_met c.args.before.now.slots (slot_of c.args.shape (get_or s 0 0))) (ltb (get_or s 0 0) c.args.lowest) s (omega arith) (search rules) (search rules) (search rules) (long_told _ _ _ _ _ _ false c.rule_of.ensures (search rules) (c.if-is_wrong.ensures ∙ ap (keeps c.in_ok-rule.rule) c.joined-long.ensures));
       met = tt;
     }
 
@@ -21,7 +21,7 @@ pub returns-then-behind-long : goal.returns-then-behind-long
 returns-then-behind-long c =
     let s = c.args.s.now in
     record {
-      number = past_end c.args.in_order c.args.shape (is_met c.args.before.slots (slot_of c.args.shape (get_or s 0 0))) (ltb (get_or s 0 0) c.args.lowest) s (omega arith) (search rules) (search rules) (search rules) (search rules) (omega arith);
+      number = past_end c.args.in_order c.args.shape (is_met c.args.before.now.slots (slot_of c.args.shape (get_or s 0 0))) (ltb (get_or s 0 0) c.args.lowest) s (omega arith) (search rules) (search rules) (search rules) (search rules) (omega arith);
       met = tt;
     }
 
@@ -32,7 +32,7 @@ returns c =
     let e : n ≡ head_long s = c.joined-long.ensures in
     record {
       number =
-          sym (no_fault c.args.in_order c.args.shape (is_met c.args.before.slots (slot_of c.args.shape (get_or s 0 0))) (ltb (get_or s 0 0) c.args.lowest) s
+          sym (no_fault c.args.in_order c.args.shape (is_met c.args.before.now.slots (slot_of c.args.shape (get_or s 0 0))) (ltb (get_or s 0 0) c.args.lowest) s
           (record { known = search rules; tag = search rules; new = search rules; above = search rules; long = search rules; size = omega arith }));
       met = record {
         slot = search rules;
