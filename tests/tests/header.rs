@@ -57,6 +57,23 @@ fn printed_by_c(name: &str) -> String {
     String::from_utf8(ran.stdout).expect("it prints text")
 }
 
+/// The archive asks for two names from outside; a C program that has no C library
+/// must give no more. `nm` comes with the linker that `cc` calls.
+#[test]
+fn archive_needs_no_more_names() {
+    let package = Path::new(env!("CARGO_MANIFEST_DIR"));
+    let root = package.parent().expect("the package stands in a folder");
+    let listed = Command::new("nm")
+        .args(["--undefined-only", "--format=just-symbols"])
+        .arg(archive_folder(root).join("libstripplates.a"))
+        .output()
+        .expect("nm is installed");
+    assert!(listed.status.success());
+    let text = String::from_utf8(listed.stdout).expect("it prints text");
+    let names = text.lines().filter(|line| !line.is_empty() && !line.ends_with(':'));
+    assert_eq!(names.collect::<Vec<_>>(), ["memcpy", "memset"]);
+}
+
 /// The expected lines are document 01's of P1; a list without its last byte is
 /// refused with 5.
 #[test]
