@@ -49,23 +49,24 @@ module _ (l : WalkedList) (k : Counts) (g : FileGiven (length l.fields.ends.now)
   rows v b = field 17 v ++ (field 18 b ++ (field 19 a ++ field 20 r))
 
   -- the whole file
-  pub file_written : {b out o1 o2 o3 o4 o5 : List ℕ} {n1 n2 n3 n4 n5 : ℕ} → b ≡ two (total r) → file_long l.bytes.now ≤ length out
-      → Written 0 (field 17 c) out o1 n1 → length o1 ≡ length out
+  pub file_written : {v b out o1 o2 o3 o4 o5 : List ℕ} {n1 n2 n3 n4 n5 : ℕ} → v ≡ c → b ≡ two (total r) → file_long l.bytes.now ≤ length out
+      → Written 0 (field 17 v) out o1 n1 → length o1 ≡ length out
       → Written n1 (field 18 b) o1 o2 n2 → length o2 ≡ length o1
       → Written n2 (field 19 a) o2 o3 n3 → length o3 ≡ length o2
       → Written n3 (field 20 r) o3 o4 n4 → length o4 ≡ length o3
       → Written n4 (sum_bytes fs r) o4 o5 n5 → FileWritten l.bytes.now a r out o5 n5
-  file_written {b} {out} {o1} {o2} {o3} {o4} {o5} {n1} {n2} {n3} {n4} {n5} sum enough w1 l1 w2 l2 w3 l3 w4 l4 w5 =
+  file_written {v} {b} {out} {o1} {o2} {o3} {o4} {o5} {n1} {n2} {n3} {n4} {n5} own sum enough w1 l1 w2 l2 w3 l3 w4 l4 w5 =
+      let own_long : length v ≡ length c = ap length own in
       let two_long : length b ≡ 2 = ap length sum in
-      let e1 : n1 ≡ 5 = omega (arith, revision_two, w1.behind) in
+      let e1 : n1 ≡ 5 = omega (arith, own_long, revision_two, w1.behind) in
       let e2 : n2 ≡ 10 = omega (arith, w2.behind) in
       let e3 : n3 ≡ 13 + length a = omega (arith, w3.behind) in
       let room : 16 + (length a + length r) + length (sum_bytes fs r) ≤ length out = omega (arith, room_is) in
-      let four : Written 0 (rows c b) out o4 n4 =
+      let four : Written 0 (rows v b) out o4 n4 =
       written_then (omega arith) w1
       (written_then (omega arith) w2
       (written_then (omega arith) w3 w4)) in
-      let counts : Written 0 (count_bytes fs a r) out o4 n4 = subst (λ (x : List ℕ). Written 0 x out o4 n4) (ap₂ rows l.contents.revision sum) four in
+      let counts : Written 0 (count_bytes fs a r) out o4 n4 = subst (λ (x : List ℕ). Written 0 x out o4 n4) (ap₂ rows (own ∙ l.contents.revision) sum) four in
       let e4 : n4 ≡ 16 + (length a + length r) = omega (arith, w4.behind) in
       let done : Written 0 (file_bytes fs a r) out o5 n5 = written_then (omega arith) counts w5 in
       record {

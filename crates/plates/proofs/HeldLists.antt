@@ -43,8 +43,11 @@ module _ (fs : List Field) (t : ℕ) (o : Option (Bor (List ℕ))) (h : option_m
   pub no_content : o ≡ None → [] ≡ content_of t fs
   no_content e = content_by t fs (ap (option_map (λ b. b.now)) (sym e) ∙ h)
 
--- the limits and the prices of a list, told whether there are any
+-- the remark, the limits and the prices of a list, told whether there are any
 module _ {fs : List Field} {f : ListFields} (h : ListFieldsOf fs f) where
+  pub contents_remark : (c : Bor (List ℕ)) → c.now ≡ [] → (unwrap_or f.remark c).now ≡ content_of 6 fs
+  contents_remark = or_nothing fs 6 _ h.remark
+
   pub contents_limits : (c : Bor (List ℕ)) → c.now ≡ [] → (unwrap_or f.limits c).now ≡ content_of 7 fs
   contents_limits = or_nothing fs 7 _ h.limits
 

@@ -100,6 +100,13 @@ impl<'a> PlateList<'a> {
         self.fields.prices.unwrap_or(b"")
     }
 
+    /// The remark; none where the list has no remark.
+    pub fn remark(&self) -> &'a [u8]
+        ensures { result.now ≡ content_of 6 (walk_all false self.now.bytes.now).fields }
+    {
+        self.fields.remark.unwrap_or(b"")
+    }
+
     /// The revision.
     pub fn revision(&self) -> usize
         ensures { result ≡ word (content_of 1 (walk_all false self.now.bytes.now).fields) }
