@@ -36,7 +36,7 @@ returns c =
           (record { known = search rules; tag = search rules; new = search rules; above = search rules; long = search rules; size = omega arith }));
       met = record {
         slot = search rules;
-        content = c.split_at.ensures.front ∙ ap (take n) (rest_lent s 3) ∙ ap (λ (m : ℕ). take m (drop 3 s)) e;
-        rest = c.split_at.ensures.back ∙ ap (drop n) (rest_lent s 3) ∙ drop-drop n 3 s ∙ ap (λ (m : ℕ). drop (3 + m) s) e;
+        content = (search rules) ∙ ap (take n) (rest_lent s 3) ∙ ap (λ (m : ℕ). take m (drop 3 s)) e;
+        rest = (search rules) ∙ ap (drop n) (rest_lent s 3) ∙ drop-drop n 3 s ∙ ap (λ (m : ℕ). drop (3 + m) s) e;
       };
     }

@@ -1,5 +1,5 @@
 -- `fields::ordering::order_fields` writes the slots in turn. The invariant: the fields of the slots passed stand one behind the other.
-use Rattle.std.proofs.Common.{arith, ◌≡◌, ℕ, ◌+◌, ap}
+use Rattle.std.proofs.Common.{arith, ◌≡◌}
 use Rattle.fields.proofs.InOrder.{slot_passed, slot_fits, slot_put, order_short, order_given}
 use Rattle.fields.proofs.ordering.order_fields.Goals as goal
 use Rattle.fields.proofs.ordering.order_fields.Goals.{in-Some, in_default}
@@ -21,8 +21,7 @@ loop-slot-preserved c =
     let i = c.loop-slot.slot in
     elim c.match-field.branch [
       | in-Some w ↦
-          let tag = c.first_tag-tag.result + i in
           rw (w.out-is, w.at-is)
-          (slot_put held i (omega arith) c.loop-slot.invariant w.in-Some.content w.in-Some.is tag (ap (λ (t : ℕ). t + i) c.first_tag-tag.ensures) w.write_field-at.ensures)
+          (slot_put held i (omega arith) c.loop-slot.invariant w.in-Some.content w.in-Some.is _ (omega (arith, c.first_tag-tag.ensures)) w.write_field-at.ensures)
       | in_default w ↦ rw (w.out-is, w.at-is) (slot_passed held i (omega arith) c.loop-slot.invariant w.in_default.is)
     ]
