@@ -32,8 +32,7 @@ impl From<[u8; 6]> for Entry {
 
 // Whether some entry is of the model and lists this revision, which is tested first, since fewer entries have it. From the last on,
 // since the last are most likely to. `before` and `model` stand beside each other here and in the two below: a struct of both would be
-// made for one call each. `inline(never)`, here and in `last_of`: within a larger function the loop took up to 1.7 times as long.
-#[inline(never)]
+// made for one call each.
 fn is_listed(before: &[[u8; 6]], model: u16, revision: u16) -> bool
     ensures { result ≡ list_any (λ e. (e.revision == revision) && (e.model == model)) (entries_in before.now) }
 {
@@ -46,7 +45,6 @@ fn is_listed(before: &[[u8; 6]], model: u16, revision: u16) -> bool
 
 // The last entry of the model. A function of its own: the proof of a chain that ends in `find` is found, of one with a `map` behind it
 // not.
-#[inline(never)]
 fn last_of(before: &[[u8; 6]], model: u16) -> Option<Entry>
     ensures { result ≡ find (λ e. e.model == model) (entries_in before.now) }
 {
@@ -92,6 +90,8 @@ fn check_entry(before: &[[u8; 6]], entry: Entry, rising: bool) -> Result<(), Ref
     Ok(())
 }
 
+// `inline(never)`: within a larger function the loops of the searches took up to half as long again.
+#[inline(never)]
 fn check_entries(entries: &[[u8; 6]]) -> Result<(), Refusal>
     ensures { fault_of result ≡ entries_fault (entries_in entries.now) }
 {
