@@ -3,12 +3,14 @@
 //! A line of shaping: the label, the number, and with 0 the length, the bends and the bytes; then how many bytes behind the
 //! shape, or with a refusal in the whole memory, are as they were lent. A line of checking: the label, the number, and with
 //! 0 the total, the fewest and whether the shape is the one that shaping writes. A line of text: a shape file converted to
-//! its text, which stands behind the line; a line of back: a text converted to the shape file, as a line of shaping.
+//! its text, which stands behind the line; a line of back: a text converted to the shape file, as a line of shaping. A line of
+//! remark: the label, and the bytes of the remark of an accepted list.
 #![tactic(auto)]
 
 ghost use Rattle.std.specs.Prelude.{◌<◌};
 
 use plates::encoding::Written;
+use plates::reading::read_list;
 use plates::{check_shape, write_shape};
 use refusals::Refusal;
 use std::io;
@@ -145,6 +147,16 @@ fn check(rt: &impl Print, label: &str, list: &[u8], shape: &[u8]) -> io::Result<
         }
         Err(refusal) => println!(rt; "{}", refusal.number()),
     }
+}
+
+// Writes the remark of a list that is accepted.
+fn remark(rt: &impl Print, label: &str, list: &[u8]) -> io::Result<()> {
+    print!(rt; "remark {label}:")?;
+    match read_list(list) {
+        Ok(list) => say_bytes(rt, list.remark())?,
+        Err(refusal) => print!(rt; " refused {}", refusal.number())?,
+    }
+    println!(rt; "")
 }
 
 // Document 01's P1 to P4: number, bends, angles and right bends are those written there.
@@ -1177,6 +1189,21 @@ fn back_memory(rt: &impl Print) -> io::Result<()> {
     back_into(rt, "P1 in 24", P1, P1_TEXT, &mut just)
 }
 
+// Remarks: one, one of no bytes, none.
+fn remarks(rt: &impl Print) -> io::Result<()> {
+    remark(
+        rt,
+        "P1 and remark",
+        b"\x01\x00\x02\x00\x07\x02\x00\x01\x02\x03\x00\x04\x00\x01\x00\x01\x04\x00\x04\x00\x02\x01\x03\x05\x00\x01\x01\x06\x00\x02\x48\x69",
+    )?;
+    remark(
+        rt,
+        "P1 and empty remark",
+        b"\x01\x00\x02\x00\x07\x02\x00\x01\x02\x03\x00\x04\x00\x01\x00\x01\x04\x00\x04\x00\x02\x01\x03\x05\x00\x01\x01\x06\x00\x00",
+    )?;
+    remark(rt, "P1, limits and prices", P1_LIMITS_PRICES)
+}
+
 fn main(rt: HostRuntime) -> io::Result<()> {
     first_plates(&rt)?;
     more_plates(&rt)?;
@@ -1214,5 +1241,6 @@ fn main(rt: HostRuntime) -> io::Result<()> {
     counts_refused(&rt)?;
     texts_priced(&rt)?;
     text_memory(&rt)?;
-    back_memory(&rt)
+    back_memory(&rt)?;
+    remarks(&rt)
 }
