@@ -90,7 +90,7 @@ fn check_entry(before: &[[u8; 6]], entry: Entry, rising: bool) -> Result<(), Ref
     Ok(())
 }
 
-// `inline(never)`: within a larger function the loops of the searches took up to half as long again.
+// `inline(never)`: within a larger function the loops of the searches took up to 1.7 times as long.
 #[inline(never)]
 fn check_entries(entries: &[[u8; 6]]) -> Result<(), Refusal>
     ensures { fault_of result ≡ entries_fault (entries_in entries.now) }
