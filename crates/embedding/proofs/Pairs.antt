@@ -28,6 +28,7 @@ pairs_gone n (suc k) s [] e = absurd (omega arith)
 pairs_gone n (suc k) s (a ∷ []) e = absurd (omega arith)
 pairs_gone n (suc k) s (a ∷ (b ∷ es)) e = pairs_gone n k (add_strip n a b s) es (omega arith)
 
+-- the same of any bytes w that are the strip ends es
 pub pairs_of : (n : ℕ) (s : Strips) (es : List ℕ) {w : List ℕ} {ps : List (List ℕ)} → w ≡ es → ps ≡ first_chunks 2 (length w / 2) w → go_pairs n s ps ≡ go_on n s es
 pairs_of n s es {w} own q = ap (go_pairs n s) q ∙ pairs_gone n (length w / 2) s w refl ∙ ap (go_on n s) own
 

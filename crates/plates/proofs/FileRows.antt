@@ -48,7 +48,7 @@ module _ (l : WalkedList) (k : Counts) (g : FileGiven (length l.fields.ends.now)
   abbrev rows : List ℕ → List ℕ → List ℕ
   rows v b = field 17 v ++ (field 18 b ++ (field 19 a ++ field 20 r))
 
-  -- the whole file
+  -- the whole file, of any bytes v and b that are the revision and the total
   pub file_written : {v b out o1 o2 o3 o4 o5 : List ℕ} {n1 n2 n3 n4 n5 : ℕ} → v ≡ c → b ≡ two (total r) → file_long l.bytes.now ≤ length out
       → Written 0 (field 17 v) out o1 n1 → length o1 ≡ length out
       → Written n1 (field 18 b) o1 o2 n2 → length o2 ≡ length o1

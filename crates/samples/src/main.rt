@@ -149,7 +149,7 @@ fn check(rt: &impl Print, label: &str, list: &[u8], shape: &[u8]) -> io::Result<
     }
 }
 
-// Writes the remark of a list that is accepted.
+// Writes the remark of an accepted list.
 fn remark(rt: &impl Print, label: &str, list: &[u8]) -> io::Result<()> {
     print!(rt; "remark {label}:")?;
     match read_list(list) {

@@ -1,4 +1,5 @@
--- `go_on` meets its contract: what is left, from the state so far, gives the state of all. `take_all`: a part of what is left will do where it is all of it.
+-- `go_on` meets its contract: what is left, from the state so far, gives the state of all. `take_all`: a front part of what is left
+-- may be split in its place, where it is all of it (must-fail `last_strip_left` splits one that is not).
 use mathlib.Core.Path.{sym, ap, ◌∙◌}
 use Rattle.std.proofs.Common.{rules}
 use Rattle.std.proofs.lemmas.List.{take_all}
